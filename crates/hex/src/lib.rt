@@ -1,0 +1,5 @@
+//! Bytes written as hexadecimal digits.
+
+mod digits;
+
+pub use digits::decode;

@@ -1,0 +1,4 @@
+pub mod Meaning
+pub mod Needs
+pub mod Calls
+pub mod Words

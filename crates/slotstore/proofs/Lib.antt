@@ -1,0 +1,13 @@
+pub mod Writes
+pub mod Tables
+pub mod Moves
+pub mod Starts
+pub mod Bounds
+pub mod Keeps
+pub mod Unmet
+pub mod Rows
+pub mod Cuts
+pub mod Joins
+pub mod Turns
+pub mod Removes
+pub mod Relinks
