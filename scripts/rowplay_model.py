@@ -1,5 +1,6 @@
 #!/usr/bin/env python3
-"""A second implementation of `rowplay`, over plain lists, written from docs/stores.md alone.
+"""A second implementation of `rowplay`, over plain lists, after the rules of docs/stores.md, and apart from the proved
+code.
 
     scripts/rowplay_model.py < crates/rowplay/stdin > crates/rowplay/stdout
 

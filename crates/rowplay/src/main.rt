@@ -1,28 +1,16 @@
 //! Plays a script of store calls on both stores at once.
 
+mod line;
 mod play;
 mod say;
-mod script;
 
 use play::play_script;
-use std::alloc::Global;
+use script::read_lines;
 use std::env;
 use std::error::AnyError;
 use std::fs::File;
-use std::io;
-use std::io::BufRead;
-use std::io::BufReader;
 use std::io::BufWriter;
-use std::io::Read;
 use std::io::Write;
-
-fn read_lines<R: Read + Drop>(heap: Global, input: R) -> io::Result<Vec<String>> {
-    let mut lines = Vec::new(heap);
-    for line in BufReader::new(input).lines(heap) {
-        lines.push(line?)?;
-    }
-    Ok(lines)
-}
 
 fn run(rt: &LibcRuntime) -> Result<(), AnyError> {
     let heap = rt.alloc();

@@ -2,13 +2,13 @@
 ghost use Prim.Native.Nat.{_<_, _≤_};
 ghost use lib.ListN.{length};
 ghost use Rattle.std.specs.Vec.{made};
+use crate::line::Line;
+use crate::line::LineFault;
+use crate::line::LineFaultDisplay;
+use crate::line::LineFaultFromAlloc;
+use crate::line::read_line;
 use crate::say::Said;
 use crate::say::SaidDisplay;
-use crate::script::Line;
-use crate::script::LineFault;
-use crate::script::LineFaultDisplay;
-use crate::script::LineFaultFromAlloc;
-use crate::script::read_line;
 use bytestore::ByteRows;
 use bytestore::ByteStore;
 use bytestore::PLACE_BYTES;
@@ -17,6 +17,7 @@ use rowmodel::ROW_BYTES;
 use rowstore::RowStore;
 use rowstore::perform;
 use rowstore::same_reply;
+use script::at_line;
 use slotstore::Slot;
 use slotstore::SlotRows;
 use slotstore::SlotStore;
@@ -55,15 +56,6 @@ fn answer_line<L: RowStore, R: RowStore, W: Write>(
         writeln!(out, "{one}")
     } else {
         writeln!(out, "DIFFER: slots {one}, bytes {other}")
-    }
-}
-
-/// The message for a line that cannot be played; lines are counted from 1.
-fn at_line(heap: Global, at: usize, fault: &LineFault) -> AnyError {
-    let number = at.saturating_add(1);
-    match format!(heap, "line {number}: {fault}") {
-        Ok(message) => message.into(),
-        Err(_) => "no memory".into(),
     }
 }
 

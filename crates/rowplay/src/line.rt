@@ -1,6 +1,7 @@
 //! A line of a script, read.
 use hex::decode;
 use rowstore::Call;
+use script::without_comment;
 use std::alloc::AllocError;
 use std::alloc::Global;
 use std::fmt;
@@ -130,13 +131,7 @@ fn number<N: FromStr>(word: Option<&str>) -> Result<N, LineFault>
 where
     N::Err: Drop,
 {
-    let Some(word) = word else {
-        return Err(LineFault::Number);
-    };
-    match word.parse::<N>() {
-        Ok(n) => Ok(n),
-        Err(_) => Err(LineFault::Number),
-    }
+    script::number(word).ok_or(LineFault::Number)
 }
 
 fn row(heap: Global, word: Option<&str>) -> Result<Vec<u8>, LineFault> {
@@ -148,11 +143,7 @@ fn row(heap: Global, word: Option<&str>) -> Result<Vec<u8>, LineFault> {
 
 /// Reads a line; what stands behind `#` is a comment.
 pub fn read_line(heap: Global, text: &str) -> Result<Line, LineFault> {
-    let text = match text.split_once('#') {
-        Some((code, _)) => code,
-        None => text,
-    };
-    let mut words = text.split_whitespace();
+    let mut words = without_comment(text).split_whitespace();
     let Some(word) = words.next() else {
         return Ok(Line::Nothing);
     };

@@ -1,0 +1,4 @@
+pub mod Dots
+pub mod Columns
+pub mod Fronts
+pub mod Listing

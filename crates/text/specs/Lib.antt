@@ -1,0 +1,3 @@
+pub mod Identifier
+pub mod Order
+pub mod Operator
