@@ -15,8 +15,7 @@ use bytestore::PLACE_BYTES;
 use rowmodel::MOST_ROWS;
 use rowmodel::ROW_BYTES;
 use rowstore::RowStore;
-use rowstore::perform;
-use rowstore::same_reply;
+use rowstore::perform_both;
 use script::at_line;
 use slotstore::Slot;
 use slotstore::SlotRows;
@@ -41,18 +40,16 @@ fn answer_line<L: RowStore, R: RowStore, W: Write>(
     let mut right_bytes = [0; ROW_BYTES];
     let left_area = &mut left_bytes[0..n];
     let right_area = &mut right_bytes[0..n];
-    let one = perform(left, &call, left_area);
-    let other = perform(right, &call, right_area);
-    let same = same_reply(&one, &other, left_area, right_area);
+    let both = perform_both(left, right, &call, left_area, right_area);
     let one = Said {
-        answer: &one,
+        answer: &both.left,
         area: left_area,
     };
     let other = Said {
-        answer: &other,
+        answer: &both.right,
         area: right_area,
     };
-    if same {
+    if both.same {
         writeln!(out, "{one}")
     } else {
         writeln!(out, "DIFFER: slots {one}, bytes {other}")

@@ -49,3 +49,11 @@ pub enum Answer {
     /// The number of free rows.
     Free(usize),
 }
+
+/// What two stores answer to one call, and whether their replies were the same: answers and areas.
+#[derive(Clone, Copy)]
+pub struct Both {
+    pub left: Answer,
+    pub right: Answer,
+    pub same: bool,
+}

@@ -6,13 +6,13 @@ use native.Mathlib.Omega.{arith}
 use lib.ListN.{length, getD, take}
 use Rattle.std.specs.Orderings.{Decides}
 use Rattle.std.proofs.shelf.Lists.{take-all}
-use Rattle.std.proofs.shelf.Tests.{and-right, and-from, cases-bool}
+use Rattle.std.proofs.shelf.Tests.{and-right, not-true, not-false}
 use Rattle.rowstore.specs.declared.call.Call.{Call}
 use Rattle.rowstore.specs.declared.call.Call.the-variants as call
 use Rattle.rowstore.specs.Runs.{Request, Held, held, request, after, reply, run, replies}
-use Rattle.rowstore.proofs.Steps.{run-more, replies-more, same-push, same-parts}
+use Rattle.rowstore.proofs.Steps.{run-more, replies-more, same-push}
 use Rattle.rowstore.proofs.runs.same_replies.Needs as need
-use Rattle.rowstore.proofs.runs.same_replies.Needs.{then-not-same-reply, else-not-same-reply}
+use Rattle.rowstore.proofs.runs.same_replies.Needs.{then-not-both, else-not-both}
 
 -- the flag after a turn
 met : (b same : Bool) → b ≡ true → same ≡ (same && b)
@@ -31,16 +31,14 @@ loop-call-again g c =
     let one : Held = held (g .L·RowStore .meaning (c .loop-call .left)) (c .loop-call .left-area) in
     let other : Held = held (g .R·RowStore .meaning (c .loop-call .right)) (c .loop-call .right-area) in
     let inv = c .loop-call .inv in
-    let flag : c .if-not-same-reply .same ≡ (c .loop-call .same && c .same-reply .result) =
-    elim (c .if-not-same-reply .came) [
-      | then-not-same-reply w ↦ w .same-is ∙ sym (and-right (c .loop-call .same) (c .same-reply .result) (w .if-not-same-reply .taken))
-      | else-not-same-reply w ↦ w .same-is ∙ met (c .same-reply .result) (c .loop-call .same) (w .if-not-same-reply .left)
+    let flag : c .if-not-both .same ≡ (c .loop-call .same && c .perform-both-both .result .same) =
+    elim (c .if-not-both .came) [
+      | then-not-both w ↦ w .same-is ∙ sym (and-right (c .loop-call .same) (c .perform-both-both .result .same) (not-true (c .perform-both-both .result .same) (w .if-not-both .taken)))
+      | else-not-both w ↦ w .same-is ∙ met (c .perform-both-both .result .same) (c .loop-call .same) (not-false (c .perform-both-both .result .same) (w .if-not-both .left))
     ] in
-    let grown = same-push (replies h (map request (take i calls))) (replies k (map request (take i calls))) (reply one q) (reply other q) (c .loop-call .same) (c .same-reply .result) (inv .2)
-    (same-parts (reply one q) (reply other q) _ _ _ _ (c .same-reply .result) (c .perform-one .ensures .told) (c .perform-other .ensures .told)
-    (ap (λ x. x .area) (c .perform-one .ensures .kept)) (ap (λ x. x .area) (c .perform-other .ensures .kept)) (c .same-reply .ensures)) in (
-      c .perform-one .ensures .kept ∙ run-more h calls i d l one (inv .0),
-      c .perform-other .ensures .kept ∙ run-more k calls i d l other (inv .1),
+    let grown = same-push (replies h (map request (take i calls))) (replies k (map request (take i calls))) (reply one q) (reply other q) (c .loop-call .same) (c .perform-both-both .result .same) (inv .2) (c .perform-both-both .ensures .told) in (
+      c .perform-both-both .ensures .left .1 ∙ run-more h calls i d l one (inv .0),
+      c .perform-both-both .ensures .right .1 ∙ run-more k calls i d l other (inv .1),
       (
         (λ t. replies-more h calls i d l one (inv .0) ∙ grown .0 (sym flag ∙ t) ∙ sym (replies-more k calls i d l other (inv .1))),
         (λ e. flag ∙ grown .1 (sym (replies-more h calls i d l one (inv .0)) ∙ e ∙ replies-more k calls i d l other (inv .1))),
