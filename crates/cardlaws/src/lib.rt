@@ -1,5 +1,7 @@
 //! Laws of every card that a list of commands can make of a new one, carried by the contracts of the functions here.
 
+#![tactic(auto)]
+
 mod definitions;
 mod soundness;
 mod uniqueness;

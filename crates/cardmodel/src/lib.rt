@@ -1,6 +1,8 @@
 //! The card as a definition. `specs/` says what a card holds, what it makes of every command, and what a user sees of
 //! it; no code is tied to it yet. The functions here carry laws of that definition in their contracts.
 
+#![tactic(auto)]
+
 mod next;
 mod nobody;
 mod refusals;

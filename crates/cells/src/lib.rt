@@ -1,5 +1,7 @@
 //! The form of a row: a count byte, then each cell as a length byte and that many bytes.
 
+#![tactic(auto)]
+
 mod form;
 mod source;
 mod write;

@@ -1,5 +1,7 @@
 //! Commands as bytes: any bytes in, a fully understood command or the exact fault out.
 
+#![tactic(auto)]
+
 mod codes;
 mod command;
 mod parse;

@@ -1,5 +1,7 @@
 //! The data field of a command: a reader of its parameters, one behind the other, and of lists of them.
 
+#![tactic(auto)]
+
 mod column;
 mod entries;
 mod parts;

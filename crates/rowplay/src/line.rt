@@ -1,5 +1,5 @@
 //! A line of a script, read.
-use hex::decode;
+use hexadecimal::decode;
 use rowstore::Call;
 use script::without_comment;
 use std::alloc::{AllocError, Global};

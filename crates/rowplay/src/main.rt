@@ -1,5 +1,7 @@
 //! Plays a script of store calls on both stores at once.
 
+#![tactic(auto)]
+
 mod line;
 mod play;
 mod say;

@@ -9,7 +9,7 @@ use rowmodel::StoreFault;
 
 /// The last row of a table.
 pub fn last_row<S: RowStore>(store: &S, number: u8) -> Result<&[u8], StoreFault>
-    ensures { lent result ≡ answer (row_unmet (meaning store.now) number (length (rows_of (table (meaning store.now) number)) - 1)) (row_at (meaning store.now) number (length (rows_of (table (meaning store.now) number)) - 1)) }
+    ensures { lent result ≡ answer (row_unmet (S.meaning store.now) number (length (rows_of (table (S.meaning store.now) number)) - 1)) (row_at (S.meaning store.now) number (length (rows_of (table (S.meaning store.now) number)) - 1)) }
 {
     let Some(size) = store.table_size(number) else {
         return Err(StoreFault::Unused);
@@ -24,9 +24,9 @@ pub fn append_and_look<S: RowStore>(
     number: u8,
     row: &[u8],
 ) -> Result<bool, StoreFault>
-    ensures result { result ≡ answer (append_unmet (meaning store.old) number row.now) true }
-    ensures after { meaning store.new ≡ after_append (meaning store.old) number row.now }
-    ensures added { MatchResult result (λ _. Added (meaning store.old) number row.now (meaning store.new)) (λ _. meaning store.new ≡ meaning store.old) }
+    ensures result { result ≡ answer (append_unmet (S.meaning store.old) number row.now) true }
+    ensures after { S.meaning store.new ≡ after_append (S.meaning store.old) number row.now }
+    ensures added { MatchResult result (λ _. Added (S.meaning store.old) number row.now (S.meaning store.new)) (λ _. S.meaning store.new ≡ S.meaning store.old) }
 {
     store.append(number, row)?;
     Ok(last_row(store, number)? == row)

@@ -1,5 +1,7 @@
 //! The interface of a row store, and what holds of every store behind it.
 
+#![tactic(auto)]
+
 mod added;
 mod call;
 mod runs;

@@ -18,8 +18,8 @@ fn ended(r: Result<(), StoreFault>) -> Answer
 
 /// Performs one call; a row that it copies goes to the front of the area.
 pub fn perform<S: RowStore>(store: &mut S, call: &Call, area: &mut [u8]) -> Answer
-    ensures told { result ≡ answered (held (meaning store.old) area.old) (request call.now) }
-    ensures kept { held (meaning store.new) area.new ≡ after (held (meaning store.old) area.old) (request call.now) }
+    ensures told { result ≡ answered (held (S.meaning store.old) area.old) (request call.now) }
+    ensures kept { held (S.meaning store.new) area.new ≡ after (held (S.meaning store.old) area.old) (request call.now) }
 {
     match *call {
         Call::Make { number, limit } => ended(store.make_table(number, limit)),

@@ -1,5 +1,7 @@
 //! Explains the commands of a card.
 
+#![tactic(auto)]
+
 mod explain;
 mod lines;
 mod refusal;

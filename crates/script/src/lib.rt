@@ -1,4 +1,7 @@
 //! What the programs that play scripts share: lines with comments, numbers in them, and messages that name a line.
+
+#![tactic(auto)]
+
 ghost use Rattle.std.specs.Prelude.{◌≡◌, ℕ, ◌<◌, length, take, ◌≢◌, slice_index};
 
 use std::alloc::Global;

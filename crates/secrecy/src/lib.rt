@@ -1,6 +1,8 @@
 //! What a card tells a user is what the user sees, and a card answers by what its user reaches: theorems about two cards
 //! over whole lists of commands, carried by the contracts of the functions here until a card that runs carries them.
 
+#![tactic(auto)]
+
 mod frame;
 mod locality;
 mod secrecy;

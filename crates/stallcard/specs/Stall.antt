@@ -3,7 +3,7 @@
 use Rattle.std.specs.Prelude.{◌≡◌, ℕ, List, [], ◌∷◌, ◌++◌, codes}
 use Prim.Native.String.{String}
 use Rattle.std.specs.Option.{unwrap_or}
-use Rattle.hex.specs.Digits.{decoded}
+use Rattle.hexadecimal.specs.Digits.{decoded}
 use Rattle.cardmodel.specs.State.{Bytes, Card}
 use Rattle.cardmodel.specs.Verdict.{Reply}
 use Rattle.cardmodel.specs.Answer.{Sent, run, replies, new_card}

@@ -1,5 +1,7 @@
 //! Examples of the rules, from the bytes of commands, on the card of a stall.
 
+#![tactic(auto)]
+
 mod causes;
 mod worked;
 

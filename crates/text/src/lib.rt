@@ -1,5 +1,7 @@
 //! Identifiers, and the comparison of strings.
 
+#![tactic(auto)]
+
 mod identifier;
 mod operator;
 mod order;

@@ -22,11 +22,11 @@ returns-in-err-last-row g c =
 pub returns : goal.returns
 returns g c =
     let m = g.S.RowStore.meaning c.args.store.now in
-    let put = c.in-ok-append.ensures in
+    let put = c.in_ok-append.ensures in
     let o : append_unmet m c.args.number c.args.row.now ≡ None = none_at_ok (append_unmet m c.args.number c.args.row.now) _ _ put.result in
     let e : g.S.RowStore.meaning c.append.new.self ≡ appended m c.args.number c.args.row.now = new_at_none _ _ _ _ o put.after in
-    let look = sym (ap lent c.in-ok-last-row.was) ∙ c.last-row.ensures ∙ last_is_new m c.args.number c.args.row.now o (g.S.RowStore.meaning c.append.new.self) e in
-    let same : c.in-ok-last-row.field-0.now ≡ c.args.row.now = cc look in
+    let look = sym (ap lent c.in_ok-last_row.was) ∙ c.last_row.ensures ∙ last_is_new m c.args.number c.args.row.now o (g.S.RowStore.meaning c.append.new.self) e in
+    let same : c.in_ok-last_row.field-0.now ≡ c.args.row.now = cc look in
     record {
       result = ok_at _ _ _ o ((slice_eq-Decides Decides-eqb _ _ _ c.eq.ensures).1 same);
       after = put.after;

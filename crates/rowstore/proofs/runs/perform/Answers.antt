@@ -9,8 +9,8 @@ returns-in-Make g c =
     let m = g.S.RowStore.meaning c.args.store.now in
     let h : Held = held m c.args.area.now in
     record {
-      told = ended_at (make_unmet m c.in-Make.number c.in-Make.limit) _ _ c.make-table.ensures.result c.ended.ensures ∙ sym (ap (λ q. answered h (request q)) c.in-Make.is);
-      kept = ap (λ s. held s c.args.area.now) c.make-table.ensures.after ∙ sym (ap (λ q. after h (request q)) c.in-Make.is);
+      told = ended_at (make_unmet m c.in-Make.number c.in-Make.limit) _ _ c.make_table.ensures.result c.ended.ensures ∙ sym (ap (λ q. answered h (request q)) c.in-Make.is);
+      kept = ap (λ s. held s c.args.area.now) c.make_table.ensures.after ∙ sym (ap (λ q. after h (request q)) c.in-Make.is);
     }
 
 pub returns-in-Replace : goal.returns-in-Replace

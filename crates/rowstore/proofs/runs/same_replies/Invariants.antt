@@ -4,10 +4,10 @@ use Rattle.rowstore.proofs.runs.same_replies.Given as goal
 
 abbrev pub invariant-loop-call : goal.invariant-loop-call
 invariant-loop-call g l =
-    (held (g.L.RowStore.meaning l.left) l.left-area
-    ≡ run (held (g.L.RowStore.meaning l.initial.left) l.initial.left-area) (map request (take l.call-index l.calls)))
-    × (held (g.R.RowStore.meaning l.right) l.right-area
+    (held (g.L.RowStore.meaning l.left) l.left_area
+    ≡ run (held (g.L.RowStore.meaning l.initial.left) l.initial.left_area) (map request (take l.call-index l.calls)))
+    × (held (g.R.RowStore.meaning l.right) l.right_area
     ≡ run (held (g.R.RowStore.meaning l.initial.right) l.initial.right-area) (map request (take l.call-index l.calls)))
     × Decides l.same
-    (replies (held (g.L.RowStore.meaning l.initial.left) l.initial.left-area) (map request (take l.call-index l.calls))
+    (replies (held (g.L.RowStore.meaning l.initial.left) l.initial.left_area) (map request (take l.call-index l.calls))
     ≡ replies (held (g.R.RowStore.meaning l.initial.right) l.initial.right-area) (map request (take l.call-index l.calls)))

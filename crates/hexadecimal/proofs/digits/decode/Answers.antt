@@ -1,10 +1,10 @@
 use Rattle.std.proofs.Common.{◌≡◌, ℕ, ◌+◌, ◌*◌, ◌<◌, true, false, eqb, List, [], ◌∷◌, ◌++◌, length, get_or, drop, Some, None, vec_items, Option, unwrap_or, sym, ap, ◌∙◌, subst, arith, rules}
 use Rattle.std.specs.Option.{option_map}
 use Rattle.std.proofs.lemmas.Bool.{or_left, or_right, or_from, eq-eqb, ne_eqb}
-use Rattle.hex.specs.Digits.{value, blank, take_digit, reading, decoded}
-use Rattle.hex.proofs.Reading.{read_blank, read_digit, push_before, read_end, read_waiting}
-use Rattle.hex.proofs.digits.decode.Goals as goal
-use Rattle.hex.proofs.digits.decode.Goals.{then-c-eq32-via-then-c-eq32, then-c-eq32-via-else-c-eq32+then-c-eq9, in-None, in-Some-high+in-ok-push}
+use Rattle.hexadecimal.specs.Digits.{value, blank, take_digit, reading, decoded}
+use Rattle.hexadecimal.proofs.Reading.{read_blank, read_digit, push_before, read_end, read_waiting}
+use Rattle.hexadecimal.proofs.digits.decode.Goals as goal
+use Rattle.hexadecimal.proofs.digits.decode.Goals.{then-c-eq32-via-then-c-eq32, then-c-eq32-via-else-c-eq32+then-c-eq9, in-None, in-Some-high+in-ok-push}
 
 -- the invariant, with what the character at hand makes of it
 pub loop-c-preserved-then-c-eq32 : goal.loop-c-preserved-then-c-eq32
@@ -69,4 +69,4 @@ pub returns-then-is-some : goal.returns-then-is-some
 returns-then-is-some c = sym (read_waiting (vec_items c.loop-c.bytes) c.args.text.now c.loop-c.c-index c.loop-c.high c.loop-c-test.false (sym c.is-some.ensures ∙ c.if-is-some.true)) ∙ c.loop-c.invariant.0
 
 pub returns : goal.returns
-returns c = sym (read_end (vec_items c.loop-c.bytes) c.args.text.now c.loop-c.c-index c.loop-c.high c.loop-c-test.false (sym c.is-some.ensures ∙ c.if-is-some.false)) ∙ c.loop-c.invariant.0
+returns c = sym (read_end (vec_items c.loop-c.bytes) c.args.text.now c.loop-c.c-index c.loop-c.high c.loop-c-test.false (sym c.is_some.ensures ∙ c.if-is_some.false)) ∙ c.loop-c.invariant.0

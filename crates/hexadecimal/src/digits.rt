@@ -1,6 +1,6 @@
 ghost use Rattle.std.specs.Prelude.{◌≡◌, ◌<◌, IfOk, vec_items};
 ghost use Rattle.std.specs.Option.{option_map, unwrap_or};
-ghost use Rattle.hex.specs.Digits.{value, decoded};
+ghost use Rattle.hexadecimal.specs.Digits.{value, decoded};
 
 use std::alloc::{AllocError, Global};
 

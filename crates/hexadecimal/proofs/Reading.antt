@@ -3,7 +3,7 @@ use Rattle.std.proofs.Common.{◌≡◌, ℕ, ◌+◌, ◌*◌, ◌<◌, ◌≤�
 use Rattle.std.specs.Option.{option_map}
 use Rattle.std.proofs.lemmas.List.{drop_all, drop_more, append_assoc, append-nil}
 use Rattle.std.proofs.lemmas.Bool.{cond-true, cond-false}
-use Rattle.hex.specs.Digits.{value, blank, take_digit, reading}
+use Rattle.hexadecimal.specs.Digits.{value, blank, take_digit, reading}
 
 reads_cons : (high : Option ℕ) (c : ℕ) (cs : List ℕ) → reading high (c ∷ cs) ≡ cond (blank c) (reading high cs) (take_digit high (value c) (λ next. reading next cs))
 reads_cons None c cs = refl

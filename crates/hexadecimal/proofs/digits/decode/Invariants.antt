@@ -1,7 +1,7 @@
 use Rattle.std.proofs.Common.{◌≡◌, ◌<◌, ◌++◌, drop, vec_items, unwrap_or}
 use Rattle.std.specs.Option.{option_map}
-use Rattle.hex.specs.Digits.{reading, decoded}
-use Rattle.hex.proofs.digits.decode.Given as goal
+use Rattle.hexadecimal.specs.Digits.{reading, decoded}
+use Rattle.hexadecimal.proofs.digits.decode.Given as goal
 
 abbrev pub invariant-loop-c : goal.invariant-loop-c
 invariant-loop-c l =
