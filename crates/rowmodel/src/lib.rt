@@ -1,6 +1,7 @@
 //! What the calls of a row store answer with: why a call is refused, and how large a table is.
 
 #![tactic(auto)]
+
 ghost use Rattle.std.specs.Prelude.{◌≡◌, Some};
 ghost use Rattle.rowmodel.specs.Needs.{answer, unmet, allowed_row};
 ghost use Rattle.rowmodel.specs.Words.{in_words};

@@ -4,7 +4,7 @@ use Rattle.std.proofs.lemmas.Bool.{or_left, or_right, or_from, eq-eqb, ne_eqb}
 use Rattle.hexadecimal.specs.Digits.{value, blank, take_digit, reading, decoded}
 use Rattle.hexadecimal.proofs.Reading.{read_blank, read_digit, push_before, read_end, read_waiting}
 use Rattle.hexadecimal.proofs.digits.decode.Goals as goal
-use Rattle.hexadecimal.proofs.digits.decode.Goals.{then-c-eq32-via-then-c-eq32, then-c-eq32-via-else-c-eq32+then-c-eq9, in-None, in-Some-high+in-ok-push}
+use Rattle.hexadecimal.proofs.digits.decode.Goals.{then-c-eq32-via-then-c-eq32, then-c-eq32-via-else-c-eq32+then-c-eq9, in-None, in-Some-high+in_ok-push-in-Some-high}
 
 -- the invariant, with what the character at hand makes of it
 pub loop-c-preserved-then-c-eq32 : goal.loop-c-preserved-then-c-eq32
@@ -19,21 +19,21 @@ loop-c-preserved-then-c-eq32 c =
       c.loop-c.invariant.1,
     )
 
-pub returns-in-default : goal.returns-in-default
-returns-in-default c =
+pub returns-in_default : goal.returns-in_default
+returns-in_default c =
     let x = get_or c.args.text.now c.loop-c.c-index 0 in
-    let none : None ≡ value x = sym c.in-default.is ∙ c.digit.ensures.value in
+    let none : None ≡ value x = sym c.in_default.is ∙ c.digit.ensures.value in
     sym (ap (option_map (λ rest. vec_items c.loop-c.bytes ++ rest))
     (read_digit c.args.text.now c.loop-c.c-index c.loop-c-test.true c.loop-c.high None (or_from (eqb x 32) (eqb x 9) (ne_eqb x 32 c.if-c-eq32.false) (ne_eqb x 9 c.if-c-eq9.false)) none))
     ∙ c.loop-c.invariant.0
 
-pub overflow-mul-first : goal.overflow-mul-first
-overflow-mul-first c =
+pub overflow_mul-first : goal.overflow_mul-first
+overflow_mul-first c =
     let small : c.in-Some-high.first < 16 = subst (λ o. unwrap_or o 0 < 16) c.in-Some-high.is c.loop-c.invariant.1 in
     search rules
 
-pub overflow-add-first : goal.overflow-add-first
-overflow-add-first c =
+pub overflow_add-first : goal.overflow_add-first
+overflow_add-first c =
     let small : c.in-Some-high.first < 16 = subst (λ o. unwrap_or o 0 < 16) c.in-Some-high.is c.loop-c.invariant.1 in
     let low : c.in-Some.low < 16 = subst (λ o. unwrap_or o 0 < 16) c.in-Some.is c.digit.ensures.small in
     search rules
@@ -55,9 +55,9 @@ loop-c-preserved c =
             ∙ sym (ap (front (vec_items c.loop-c.bytes)) (step ∙ ap (λ h. take_digit h (Some low) rest) w.in-None.is)) ∙ c.loop-c.invariant.0,
         subst (λ h. unwrap_or h 0 < 16) (sym w.high-is) (subst (λ o. unwrap_or o 0 < 16) c.in-Some.is c.digit.ensures.small),
       )
-      | in-Some-high+in-ok-push w ↦
+      | in-Some-high+in_ok-push-in-Some-high w ↦
           let first = w.in-Some-high.first in
-          let pushed : vec_items c.match-high.bytes ≡ vec_items c.loop-c.bytes ++ ((16 * first + low) ∷ []) = ap vec_items w.bytes-is ∙ w.in-ok-push.ensures.items in (
+          let pushed : vec_items c.match-high.bytes ≡ vec_items c.loop-c.bytes ++ ((16 * first + low) ∷ []) = ap vec_items w.bytes-is ∙ w.in_ok-push-in-Some-high.ensures.items in (
             ap (λ b. front b (rest c.match-high.high)) pushed ∙ ap (λ h. front (vec_items c.loop-c.bytes ++ ((16 * first + low) ∷ [])) (rest h)) w.high-is
                 ∙ sym (push_before (vec_items c.loop-c.bytes) (16 * first + low) (rest None))
                 ∙ sym (ap (front (vec_items c.loop-c.bytes)) (step ∙ ap (λ h. take_digit h (Some low) rest) w.in-Some-high.is)) ∙ c.loop-c.invariant.0,
@@ -65,8 +65,8 @@ loop-c-preserved c =
           )
     ]
 
-pub returns-then-is-some : goal.returns-then-is-some
-returns-then-is-some c = sym (read_waiting (vec_items c.loop-c.bytes) c.args.text.now c.loop-c.c-index c.loop-c.high c.loop-c-test.false (sym c.is-some.ensures ∙ c.if-is-some.true)) ∙ c.loop-c.invariant.0
+pub returns-then-is_some : goal.returns-then-is_some
+returns-then-is_some c = sym (read_waiting (vec_items c.loop-c.bytes) c.args.text.now c.loop-c.c-index c.loop-c.high c.loop-c-test.false (sym c.is_some.ensures ∙ c.if-is_some.true)) ∙ c.loop-c.invariant.0
 
 pub returns : goal.returns
 returns c = sym (read_end (vec_items c.loop-c.bytes) c.args.text.now c.loop-c.c-index c.loop-c.high c.loop-c-test.false (sym c.is_some.ensures ∙ c.if-is_some.false)) ∙ c.loop-c.invariant.0

@@ -9,14 +9,14 @@ use Rattle.rowstore.proofs.Appends.{appended_adds, last_is_new}
 use Rattle.rowstore.proofs.added.append_and_look.Goals as goal
 use Rattle.std.proofs.lemmas.Bool.Decides.{Decides-eqb}
 
-pub returns-in-err-last-row : goal.returns-in-err-last-row
-returns-in-err-last-row g c =
+pub returns-in_err-last_row : goal.returns-in_err-last_row
+returns-in_err-last_row g c =
     let m = g.S.RowStore.meaning c.args.store.now in
-    let put = c.in-ok-append.ensures in
+    let put = c.in_ok-append.ensures in
     let o : append_unmet m c.args.number c.args.row.now ≡ None = none_at_ok (append_unmet m c.args.number c.args.row.now) _ _ put.result in
     let e : g.S.RowStore.meaning c.append.new.self ≡ appended m c.args.number c.args.row.now = new_at_none _ _ _ _ o put.after in
-    let look = c.last-row.ensures ∙ last_is_new m c.args.number c.args.row.now o (g.S.RowStore.meaning c.append.new.self) e in
-    let broke = ap lent c.in-err-last-row.was in
+    let look = c.last_row.ensures ∙ last_is_new m c.args.number c.args.row.now o (g.S.RowStore.meaning c.append.new.self) e in
+    let broke = ap lent c.in_err-last_row.was in
     let z : ◌≡◌ {A = ℕ} 0 1 = cc (look, broke) in absurd (omega arith)
 
 pub returns : goal.returns
