@@ -5,5 +5,5 @@ use Rattle.apdu.proofs.envelope.open_envelope.Goals as goal
 pub returns : goal.returns
 returns c = record {
   result = search rules;
-  within = field_within c.args.command.now c.in-Some-operation-of.operation c.in-Some.body c.field-end-end.result c.in-Some.ensures.sized (sym c.if-not-is-wanted.ensures) c.field-end-end.ensures;
+  within = field_within c.args.command.now c.in-Some-operation_of.operation c.in-Some.body c.field_end-end.result c.in-Some.ensures.sized (sym c.if-not-is_wanted.ensures) c.field_end-end.ensures;
 }

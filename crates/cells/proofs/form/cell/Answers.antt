@@ -12,10 +12,10 @@ returns c =
     let row = c.args.row.now in
     let from = cell_from (drop c.loop.place row) in
     record {
-      result = c.string-at.ensures.result ∙ elim c.loop-test.branch [
+      result = c.string_at.ensures.result ∙ elim c.loop-test.branch [
         | else-loop-test w ↦ (let e : zero ≡ c.args.column - c.loop.counter = omega (arith, w.loop-test.false) in ap from e)
         | then-loop-test+then-place-row w ↦ cell_past row c.loop.place (c.args.column - c.loop.counter) w.if-place-row.true
       ] ∙ c.loop.invariant;
-      short = c.string-at.ensures.short;
+      short = c.string_at.ensures.short;
       lawful = cells_read;
     }

@@ -10,5 +10,5 @@ returns-then-place-bytes c = record { result = sym (at_drop_all string_of c.args
 pub returns : goal.returns
 returns c = record {
   result = string_cut c.args.bytes.now c.args.place c.min-end.result c.if-place-bytes.false c.min-end.ensures;
-  short = simp length-take (omega (arith, c.type-inv.bytes c.args.place, c.min-end.ensures));
+  short = simp length-take (omega (arith, c.type_inv.bytes c.args.place, c.min-end.ensures));
 }

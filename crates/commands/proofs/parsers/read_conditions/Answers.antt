@@ -2,17 +2,17 @@ use Rattle.std.proofs.Common.{rules}
 use Rattle.commands.specs.Parsers.{conditions_at}
 use Rattle.commands.proofs.parsers.read_conditions.Goals as goal
 
-pub returns-then-is-at-end : goal.returns-then-is-at-end
+pub returns-then-is_at_end : goal.returns-then-is_at_end
 unfolding conditions_at
-returns-then-is-at-end c = search rules
+returns-then-is_at_end c = search rules
 
-pub returns-in-default : goal.returns-in-default
+pub returns-in_default : goal.returns-in_default
 unfolding conditions_at
-returns-in-default c = search rules
+returns-in_default c = search rules
 
-pub returns-in-default-entries : goal.returns-in-default-entries
+pub returns-in_default-entries : goal.returns-in_default-entries
 unfolding conditions_at
-returns-in-default-entries c = search rules
+returns-in_default-entries c = search rules
 
 pub returns : goal.returns
 unfolding conditions_at

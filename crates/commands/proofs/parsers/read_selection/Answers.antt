@@ -2,21 +2,21 @@ use Rattle.std.proofs.Common.{rules}
 use Rattle.commands.specs.Parsers.{selection_at}
 use Rattle.commands.proofs.parsers.read_selection.Goals as goal
 
-pub returns-in-default : goal.returns-in-default
+pub returns-in_default : goal.returns-in_default
 unfolding selection_at
-returns-in-default c = search rules
+returns-in_default c = search rules
 
-pub returns-in-default-count : goal.returns-in-default-count
+pub returns-in_default-count : goal.returns-in_default-count
 unfolding selection_at
-returns-in-default-count c = search rules
+returns-in_default-count c = search rules
 
-pub returns-in-default-entries : goal.returns-in-default-entries
+pub returns-in_default-entries : goal.returns-in_default-entries
 unfolding selection_at
-returns-in-default-entries c = search rules
+returns-in_default-entries c = search rules
 
-pub returns-in-default-read-conditions : goal.returns-in-default-read-conditions
+pub returns-in_default-read_conditions : goal.returns-in_default-read_conditions
 unfolding selection_at
-returns-in-default-read-conditions c = search rules
+returns-in_default-read_conditions c = search rules
 
 pub returns : goal.returns
 unfolding selection_at

@@ -9,32 +9,32 @@ use Rattle.std.proofs.lemmas.Bool.Decides.{Decides-eqb}
 pub loop-i-init : goal.loop-i-init
 loop-i-init c = (refl, ap (λ n. among c.args.name.now (names c.args.kind c.args.field.now c.args.from n)) (sub-zero c.args.count))
 
-pub returns-in-default : goal.returns-in-default
-returns-in-default c =
+pub returns-in_default : goal.returns-in_default
+returns-in_default c =
     sym (among_broken c.args.kind c.loop-i.reader.field.now c.args.field.now c.loop-i.reader.at c.args.count c.loop-i.-i c.loop-i.invariant.0 c.loop-i-test.true c.args.name.now
-    _ c.in-default.ensures.read)
+    _ c.in_default.ensures.read)
     ∙ c.loop-i.invariant.1
 
 pub returns-then-eq : goal.returns-then-eq
 returns-then-eq c =
     sym (among_here c.args.kind c.loop-i.reader.field.now c.args.field.now c.loop-i.reader.at c.args.count c.loop-i.-i c.loop-i.invariant.0 c.loop-i-test.true c.args.name.now
-    c.in-Some.earlier.now c.entry-name.new.self.at c.eq.result c.in-Some.ensures.read (slice_eq-Decides Decides-eqb _ _ _ c.eq.ensures) c.if-eq.true)
+    c.in-Some.earlier.now c.entry_name.new.self.at c.eq.result c.in-Some.ensures.read (slice_eq-Decides Decides-eqb _ _ _ c.eq.ensures) c.if-eq.true)
     ∙ c.loop-i.invariant.1
 
-pub returns-in-default-entry-rest : goal.returns-in-default-entry-rest
-returns-in-default-entry-rest c =
+pub returns-in_default-entry_rest : goal.returns-in_default-entry_rest
+returns-in_default-entry_rest c =
     sym (among_cut c.args.kind c.loop-i.reader.field.now c.args.field.now c.loop-i.reader.at c.args.count c.loop-i.-i c.loop-i.invariant.0 c.loop-i-test.true c.args.name.now
-    c.in-Some.earlier.now c.entry-name.new.self.at c.eq.result c.in-Some.ensures.read (slice_eq-Decides Decides-eqb _ _ _ c.eq.ensures) _ c.if-eq.false
-    (ap (λ f. rest_at c.args.kind f c.entry-name.new.self.at) (sym (c.in-Some.ensures.same ∙ c.loop-i.invariant.0)) ∙ c.in-default-entry-rest.ensures.read))
+    c.in-Some.earlier.now c.entry_name.new.self.at c.eq.result c.in-Some.ensures.read (slice_eq-Decides Decides-eqb _ _ _ c.eq.ensures) _ c.if-eq.false
+    (ap (λ f. rest_at c.args.kind f c.entry_name.new.self.at) (sym (c.in-Some.ensures.same ∙ c.loop-i.invariant.0)) ∙ c.in_default-entry_rest.ensures.read))
     ∙ c.loop-i.invariant.1
 
 pub loop-i-preserved : goal.loop-i-preserved
 loop-i-preserved c =
     let kept = c.in-Some.ensures.same ∙ c.loop-i.invariant.0 in (
-      c.in-Some-entry-rest.ensures.same ∙ kept,
+      c.in-Some-entry_rest.ensures.same ∙ kept,
       sym (among_behind c.args.kind c.loop-i.reader.field.now c.args.field.now c.loop-i.reader.at c.args.count c.loop-i.-i c.loop-i.invariant.0 c.loop-i-test.true c.args.name.now
-          c.in-Some.earlier.now c.entry-name.new.self.at c.eq.result c.in-Some.ensures.read (slice_eq-Decides Decides-eqb _ _ _ c.eq.ensures) _ _ c.if-eq.false
-          (ap (λ f. rest_at c.args.kind f c.entry-name.new.self.at) (sym kept) ∙ c.in-Some-entry-rest.ensures.read))
+          c.in-Some.earlier.now c.entry_name.new.self.at c.eq.result c.in-Some.ensures.read (slice_eq-Decides Decides-eqb _ _ _ c.eq.ensures) _ _ c.if-eq.false
+          (ap (λ f. rest_at c.args.kind f c.entry_name.new.self.at) (sym kept) ∙ c.in-Some-entry_rest.ensures.read))
           ∙ c.loop-i.invariant.1,
     )
 

@@ -2,11 +2,11 @@ use Rattle.std.proofs.Common.{arith, rules}
 use Rattle.fields.proofs.Listing.{parameters_broken, parameters_more}
 use Rattle.fields.proofs.parts.PartsIterator.next.Goals as goal
 
-pub returns-in-default : goal.returns-in-default
-returns-in-default c =
+pub returns-in_default : goal.returns-in_default
+returns-in_default c =
     let s = c.args.self.now in
     record {
-      steps = parameters_broken s.field.now s.at s.count (omega arith) _ c.in-default.ensures.read;
+      steps = parameters_broken s.field.now s.at s.count (omega arith) _ c.in_default.ensures.read;
       goes = search rules;
     }
 
