@@ -55,6 +55,10 @@ def files(top, ends):
                 yield os.path.join(folder, n)
 
 
+def clausal(name):
+    return "-" in name or (name[0].islower() and name != name.lower())
+
+
 def turn(text, names, parts):
     def one(m):
         old = m.group(1)
@@ -78,14 +82,14 @@ def main():
         names = everywhere | single.get(os.path.relpath(p, top), {})
         old = open(p, encoding="utf-8").read()
         if p.endswith(".rt"):
-            # a name with a dash stands only in clauses, and is no part of a string
-            names = {a: b for a, b in names.items() if "-" in a}
+            # a name with a dash, or a capital within, stands only in clauses, and is no part of a string
+            names = {a: b for a, b in names.items() if clausal(a)}
             new = "".join(l if '"' in l else turn(l, names, parts) for l in old.splitlines(True))
         else:
             new = turn(old, names, parts)
         if new != old:
             open(p, "w", encoding="utf-8").write(new)
-    dashed = {a: b for a, b in everywhere.items() if "-" in a}
+    dashed = {a: b for a, b in everywhere.items() if clausal(a)}
     for p in files(top, (".edit",)):
         old = open(p, encoding="utf-8").read()
         new = "".join(turn(l, dashed, parts) if l.startswith(("old:", "new:")) else l for l in old.splitlines(True))

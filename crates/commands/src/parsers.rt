@@ -1,7 +1,7 @@
 ghost use Rattle.std.specs.Prelude.{◌≡◌, ◌&&◌, length, Ok, Err, MatchOption, MatchResult, ◌==◌, slice_index};
 ghost use Rattle.fields.specs.Reader.{got, broken, parameter, listed};
 ghost use Rattle.commands.specs.Command.{selected, permitted, drop_table, drop_view, grant, revoke};
-ghost use Rattle.commands.specs.Parsers.{told, conditionsAt, selectionAt, limitAt, rightAt, granteeAt, only_name, permissionAt, present_user_of, create_user_of, name_of, declare_cursor_of, create_view_of, create_table_of, permission_of, insert_of, update_of};
+ghost use Rattle.commands.specs.Parsers.{told, conditions_at, selection_at, limit_at, right_at, grantee_at, only_name, permission_at, present_user_of, create_user_of, name_of, declare_cursor_of, create_view_of, create_table_of, permission_of, insert_of, update_of};
 
 use crate::codes::{read_profile, read_right};
 use crate::command::{Command, Permission, Right, Selection};
@@ -19,7 +19,7 @@ const USUAL_LIMIT: u8 = 16;
 
 /// Conditions, which may be left out.
 fn read_conditions<'a>(reader: &mut Reader<'a>) -> Option<Parts<'a>>
-    ensures read { MatchOption result (conditionsAt reader.old.field.now reader.old.at ≡ broken reader.new.at) (λ x. conditionsAt reader.old.field.now reader.old.at ≡ got (listed x) reader.new.at) }
+    ensures read { MatchOption result (conditions_at reader.old.field.now reader.old.at ≡ broken reader.new.at) (λ x. conditions_at reader.old.field.now reader.old.at ≡ got (listed x) reader.new.at) }
     ensures same { reader.new.field.now ≡ reader.old.field.now }
 {
     let field = reader.field;
@@ -46,7 +46,7 @@ fn read_conditions<'a>(reader: &mut Reader<'a>) -> Option<Parts<'a>>
 
 /// An object, columns and conditions.
 fn read_selection<'a>(reader: &mut Reader<'a>) -> Option<Selection<'a>>
-    ensures read { MatchOption result (selectionAt reader.old.field.now reader.old.at ≡ broken reader.new.at) (λ x. selectionAt reader.old.field.now reader.old.at ≡ got (selected x) reader.new.at) }
+    ensures read { MatchOption result (selection_at reader.old.field.now reader.old.at ≡ broken reader.new.at) (λ x. selection_at reader.old.field.now reader.old.at ≡ got (selected x) reader.new.at) }
     ensures same { reader.new.field.now ≡ reader.old.field.now }
 {
     let field = reader.field;
@@ -77,7 +77,7 @@ fn read_selection<'a>(reader: &mut Reader<'a>) -> Option<Selection<'a>>
 
 /// A table's limit, which may be left out.
 fn read_limit(reader: &mut Reader) -> Option<u8>
-    ensures read { MatchOption result (limitAt reader.old.field.now reader.old.at ≡ broken reader.new.at) (λ x. limitAt reader.old.field.now reader.old.at ≡ got (x) reader.new.at) }
+    ensures read { MatchOption result (limit_at reader.old.field.now reader.old.at ≡ broken reader.new.at) (λ x. limit_at reader.old.field.now reader.old.at ≡ got (x) reader.new.at) }
     ensures same { reader.new.field.now ≡ reader.old.field.now }
 {
     if reader.is_at_end() {
@@ -96,7 +96,7 @@ fn read_limit(reader: &mut Reader) -> Option<u8>
 
 /// The code of a right.
 fn take_right(reader: &mut Reader) -> Option<Right>
-    ensures read { MatchOption result (rightAt reader.old.field.now reader.old.at ≡ broken reader.new.at) (λ x. rightAt reader.old.field.now reader.old.at ≡ got (x) reader.new.at) }
+    ensures read { MatchOption result (right_at reader.old.field.now reader.old.at ≡ broken reader.new.at) (λ x. right_at reader.old.field.now reader.old.at ≡ got (x) reader.new.at) }
     ensures same { reader.new.field.now ≡ reader.old.field.now }
 {
     let place = reader.place();
@@ -112,7 +112,7 @@ fn take_right(reader: &mut Reader) -> Option<Right>
 
 /// A grantee: an id, or an asterisk for all users.
 fn take_grantee<'a>(reader: &mut Reader<'a>) -> Option<Part<'a>>
-    ensures read { MatchOption result (granteeAt reader.old.field.now reader.old.at ≡ broken reader.new.at) (λ x. granteeAt reader.old.field.now reader.old.at ≡ got (parameter x) reader.new.at) }
+    ensures read { MatchOption result (grantee_at reader.old.field.now reader.old.at ≡ broken reader.new.at) (λ x. grantee_at reader.old.field.now reader.old.at ≡ got (parameter x) reader.new.at) }
     ensures same { reader.new.field.now ≡ reader.old.field.now }
 {
     let place = reader.place();
@@ -148,7 +148,7 @@ fn read_only_name(field: &[u8]) -> Result<Part<'_>, FieldFault>
 
 /// What GRANT and REVOKE say.
 fn read_permission(field: &[u8]) -> Result<Permission<'_>, FieldFault>
-    ensures { MatchResult result (λ p. permissionAt field.now ≡ Ok (permitted p)) (λ f. permissionAt field.now ≡ Err f) }
+    ensures { MatchResult result (λ p. permission_at field.now ≡ Ok (permitted p)) (λ f. permission_at field.now ≡ Err f) }
 {
     let mut reader = Reader::new(field);
     let place = reader.place();

@@ -66,7 +66,7 @@ pub fn read_column(bytes: &[u8]) -> Option<Column<'_>>
 {
     let end = find_dot(bytes);
     let name = &bytes[0..end];
-    if !is_identifier(name) || name == b"USER" {
+    if !is_identifier(name) || name == b"USER".as_slice() {
         return None;
     }
     let Some(marks) = read_marks(&bytes[end..bytes.len()]) else {

@@ -1,5 +1,5 @@
 ghost use Rattle.std.specs.Prelude.{◌≡◌, ◌-◌, not, length, take, drop, MatchOption, nat_lt};
-ghost use Rattle.fields.specs.Reader.{parameter, got, broken, param_at, countAt, identifierAt, byte_at, operatorAt};
+ghost use Rattle.fields.specs.Reader.{parameter, got, broken, param_at, count_at, identifier_at, byte_at, operator_at};
 
 use text::{Operator, is_identifier};
 
@@ -83,7 +83,7 @@ impl<'a> Reader<'a> {
 
     /// A count byte from `least` to `most`.
     pub fn count(&mut self, least: u8, most: u8) -> Option<u8>
-        ensures read { MatchOption result (countAt self.old.field.now least most self.old.at ≡ broken self.new.at) (λ n. countAt self.old.field.now least most self.old.at ≡ got n self.new.at) }
+        ensures read { MatchOption result (count_at self.old.field.now least most self.old.at ≡ broken self.new.at) (λ n. count_at self.old.field.now least most self.old.at ≡ got n self.new.at) }
         ensures same { self.new.field.now ≡ self.old.field.now }
     {
         let at = self.at;
@@ -102,7 +102,7 @@ impl<'a> Reader<'a> {
 
     /// An identifier.
     pub fn identifier(&mut self) -> Option<Part<'a>>
-        ensures read { MatchOption result (identifierAt self.old.field.now self.old.at ≡ broken self.new.at) (λ p. identifierAt self.old.field.now self.old.at ≡ got (parameter p) self.new.at) }
+        ensures read { MatchOption result (identifier_at self.old.field.now self.old.at ≡ broken self.new.at) (λ p. identifier_at self.old.field.now self.old.at ≡ got (parameter p) self.new.at) }
         ensures same { self.new.field.now ≡ self.old.field.now }
     {
         let place = self.at;
@@ -130,7 +130,7 @@ impl<'a> Reader<'a> {
 
     /// The code of an operator.
     pub fn operator(&mut self) -> Option<Operator>
-        ensures read { MatchOption result (operatorAt self.old.field.now self.old.at ≡ broken self.new.at) (λ o. operatorAt self.old.field.now self.old.at ≡ got o self.new.at) }
+        ensures read { MatchOption result (operator_at self.old.field.now self.old.at ≡ broken self.new.at) (λ o. operator_at self.old.field.now self.old.at ≡ got o self.new.at) }
         ensures same { self.new.field.now ≡ self.old.field.now }
     {
         let place = self.at;

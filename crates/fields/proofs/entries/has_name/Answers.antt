@@ -11,19 +11,19 @@ loop-i-init c = (refl, ap (λ n. among c.args.name.now (names c.args.kind c.args
 
 pub returns-in_default : goal.returns-in_default
 returns-in_default c =
-    sym (among_broken c.args.kind c.loop-i.reader.field.now c.args.field.now c.loop-i.reader.at c.args.count c.loop-i.-i c.loop-i.invariant.0 c.loop-i-test.true c.args.name.now
+    sym (among_broken c.args.kind c.loop-i.reader.field.now c.args.field.now c.loop-i.reader.at c.args.count c.loop-i._i c.loop-i.invariant.0 c.loop-i-test.true c.args.name.now
     _ c.in_default.ensures.read)
     ∙ c.loop-i.invariant.1
 
 pub returns-then-eq : goal.returns-then-eq
 returns-then-eq c =
-    sym (among_here c.args.kind c.loop-i.reader.field.now c.args.field.now c.loop-i.reader.at c.args.count c.loop-i.-i c.loop-i.invariant.0 c.loop-i-test.true c.args.name.now
+    sym (among_here c.args.kind c.loop-i.reader.field.now c.args.field.now c.loop-i.reader.at c.args.count c.loop-i._i c.loop-i.invariant.0 c.loop-i-test.true c.args.name.now
     c.in-Some.earlier.now c.entry_name.new.self.at c.eq.result c.in-Some.ensures.read (slice_eq-Decides Decides-eqb _ _ _ c.eq.ensures) c.if-eq.true)
     ∙ c.loop-i.invariant.1
 
 pub returns-in_default-entry_rest : goal.returns-in_default-entry_rest
 returns-in_default-entry_rest c =
-    sym (among_cut c.args.kind c.loop-i.reader.field.now c.args.field.now c.loop-i.reader.at c.args.count c.loop-i.-i c.loop-i.invariant.0 c.loop-i-test.true c.args.name.now
+    sym (among_cut c.args.kind c.loop-i.reader.field.now c.args.field.now c.loop-i.reader.at c.args.count c.loop-i._i c.loop-i.invariant.0 c.loop-i-test.true c.args.name.now
     c.in-Some.earlier.now c.entry_name.new.self.at c.eq.result c.in-Some.ensures.read (slice_eq-Decides Decides-eqb _ _ _ c.eq.ensures) _ c.if-eq.false
     (ap (λ f. rest_at c.args.kind f c.entry_name.new.self.at) (sym (c.in-Some.ensures.same ∙ c.loop-i.invariant.0)) ∙ c.in_default-entry_rest.ensures.read))
     ∙ c.loop-i.invariant.1
@@ -32,11 +32,11 @@ pub loop-i-preserved : goal.loop-i-preserved
 loop-i-preserved c =
     let kept = c.in-Some.ensures.same ∙ c.loop-i.invariant.0 in (
       c.in-Some-entry_rest.ensures.same ∙ kept,
-      sym (among_behind c.args.kind c.loop-i.reader.field.now c.args.field.now c.loop-i.reader.at c.args.count c.loop-i.-i c.loop-i.invariant.0 c.loop-i-test.true c.args.name.now
+      sym (among_behind c.args.kind c.loop-i.reader.field.now c.args.field.now c.loop-i.reader.at c.args.count c.loop-i._i c.loop-i.invariant.0 c.loop-i-test.true c.args.name.now
           c.in-Some.earlier.now c.entry_name.new.self.at c.eq.result c.in-Some.ensures.read (slice_eq-Decides Decides-eqb _ _ _ c.eq.ensures) _ _ c.if-eq.false
           (ap (λ f. rest_at c.args.kind f c.entry_name.new.self.at) (sym kept) ∙ c.in-Some-entry_rest.ensures.read))
           ∙ c.loop-i.invariant.1,
     )
 
 pub returns : goal.returns
-returns c = sym (ap (among c.args.name.now) (names_all c.args.kind c.args.field.now c.loop-i.reader.at c.args.count c.loop-i.-i c.loop-i-test.false)) ∙ c.loop-i.invariant.1
+returns c = sym (ap (among c.args.name.now) (names_all c.args.kind c.args.field.now c.loop-i.reader.at c.args.count c.loop-i._i c.loop-i-test.false)) ∙ c.loop-i.invariant.1
