@@ -18,7 +18,7 @@ use Rattle.cardlaws.specs.Sound.{Apart, one_name, one_privilege, Formed, RowsFor
 use Rattle.cardlaws.proofs.OtherRights.{lost, reaches_kept}
 use Rattle.cardlaws.proofs.Apart.{apart_kept, apart_eq}
 use Rattle.cardlaws.proofs.Registers.{sized_some}
-use Rattle.cardlaws.proofs.Windows.{of-kind, source_of, view_no_table, table_found, object_found, table_kept, object_kept, window_kept, formed_kept}
+use Rattle.cardlaws.proofs.Windows.{of_kind, source_of, view_no_table, table_found, object_found, table_kept, object_kept, window_kept, formed_kept}
 use Rattle.cardlaws.proofs.KeptCursor.{ChoiceKept, cursor_sound, behind_same}
 
 -- the table that an object speaks of
@@ -26,7 +26,7 @@ pub base_table : (o : Object) → is_table o ≡ true → base o ≡ Some o.name
 unfolding base
 base_table o e = go o.kind e
   where
-    go : (k : Kind) → is_table (of-kind o k) ≡ true → base (of-kind o k) ≡ Some o.name
+    go : (k : Kind) → is_table (of_kind o k) ≡ true → base (of_kind o k) ≡ Some o.name
     go (a_table limit) e = refl
     go a_view e = absurd (both_ways false refl e)
 
@@ -34,8 +34,8 @@ pub base_view : (o : Object) → o.kind ≡ a_view → base o ≡ Some (source_o
 unfolding base
 base_view o e = go o.kind e
   where
-    go : (k : Kind) → k ≡ a_view → base (of-kind o k) ≡ Some (source_of o)
-    go (a_table limit) e = absurd (both_ways true (view_no_table (of-kind o (a_table limit)) e) refl)
+    go : (k : Kind) → k ≡ a_view → base (of_kind o k) ≡ Some (source_of o)
+    go (a_table limit) e = absurd (both_ways true (view_no_table (of_kind o (a_table limit)) e) refl)
     go a_view e = refl
 
 pub window_base : (os : List Object) (o : Object) → (window os o).table ≡ base o
@@ -45,7 +45,7 @@ window_base os o = refl
 view_limit : (o : Object) → is_table o ≡ false → limit_of o.kind ≡ 0
 view_limit o e = go o.kind e
   where
-    go : (k : Kind) → is_table (of-kind o k) ≡ false → limit_of k ≡ 0
+    go : (k : Kind) → is_table (of_kind o k) ≡ false → limit_of k ≡ 0
     go (a_table limit) e = absurd (both_ways true e refl)
     go a_view e = refl
 
