@@ -1,6 +1,5 @@
 -- The store after each call whose needs are met.
 use Rattle.std.proofs.Common.{◌≡◌, ℕ, ◌+◌, ◌-◌, ◌*◌, ◌<◌, ◌≤◌, ◌≢◌, List, [], ◌∷◌, ◌++◌, map, length, set, None, sym, refl, ap, ◌∙◌, subst, ⊎_elim, arith}
-use Prim.{Unit}
 use Rattle.std.specs.List.{remove as without}
 use Rattle.std.proofs.lemmas.List.{length-set, length-map, set-get_or, get_or-set_same, get_or-set_other}
 use Rattle.std.proofs.lemmas.Bool.{cases_lt}
@@ -22,15 +21,15 @@ use Rattle.bytestore.proofs.Stores.{bytes_of, free_of, region_of, meaning_of, so
 
 -- what the ghost fields of a store with these bytes, regions, top and places are owed
 abbrev pub Owed : List ℕ → List Region → ℕ → ℕ → Type 0
-Owed bs rs top places =
-    (length rs ≡ 16)
-    × (((241 * places ≤ length bs) × (top ≤ places))
-    × (Within top rs
-    × (Apart rs
-    × (Limited (byte_meaning bs rs (places - top))
-    × (Sized (byte_meaning bs rs (places - top))
-    × (Roomy (byte_meaning bs rs (places - top))
-    × Unit {0}))))))
+Owed bs rs top places = record {
+  long : length rs ≡ 16;
+  fits : (241 * places ≤ length bs) × (top ≤ places);
+  within : Within top rs;
+  apart : Apart rs;
+  limited : Limited (byte_meaning bs rs (places - top));
+  sized : Sized (byte_meaning bs rs (places - top));
+  roomy : Roomy (byte_meaning bs rs (places - top));
+}
 
 -- other bytes, regions and top mean m, and are a store
 pub record After (s : ByteStore) (bs : List ℕ) (rs : List Region) (top : ℕ) (m : Meaning) : Type 0 where
@@ -42,7 +41,7 @@ after : (s : ByteStore) (bs : List ℕ) (rs : List Region) (top : ℕ) (m : Mean
     byte_meaning bs rs (s.places - top) ≡ m → After s bs rs top m
 after s bs rs top m len long low within apart sound e =
     let h = subst Sound (sym e) sound in
-    record { means = e; owed = (long, ((omega (arith, s.fits), low), (within, (apart, (h.limited, (h.sized, (h.roomy, tt))))))) }
+    record { means = e; owed = record { long = long; fits = (omega (arith, s.fits), low); within = within; apart = apart; limited = h.limited; sized = h.sized; roomy = h.roomy } }
 
 -- the regions with another count at a number
 abbrev pub recounted : List Region → ℕ → ℕ → List Region

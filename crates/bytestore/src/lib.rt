@@ -1,6 +1,7 @@
 //! A row store in lent bytes: 241 bytes a row, at computed places.
 
 #![tactic(auto)]
+
 mod memory;
 mod region;
 mod store;

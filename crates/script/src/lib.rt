@@ -4,6 +4,7 @@
 
 ghost use Rattle.std.specs.Prelude.{◌≡◌, ℕ, ◌<◌, length, take, ◌≢◌, slice_index};
 
+use anyhow::anyhow;
 use std::alloc::Global;
 use std::io::{BufRead, BufReader, Read};
 use std::str::FromStr;
@@ -44,7 +45,7 @@ where
 pub fn at_line<F: fmt::Display>(heap: Global, at: usize, fault: &F) -> anyhow::Error {
     let number = at.saturating_add(1);
     match format!(in heap; "line {number}: {fault}") {
-        Ok(message) => message.into(),
-        Err(_) => "no memory".into(),
+        Ok(message) => anyhow!(message),
+        Err(_) => anyhow!("no memory"),
     }
 }

@@ -2,8 +2,8 @@ use Rattle.std.proofs.Common.{◌+◌, ◌*◌, get_or, take, drop, refl, ap, �
 use Rattle.bytestore.proofs.Bytes.{length-row_in, row_in_part}
 use Rattle.bytestore.proofs.memory.Memory.row.Goals as goal
 
-pub slice-bounds-result-end : goal.slice-bounds-result-end
-slice-bounds-result-end c = omega (arith, length-row_in c.args.self.now.bytes.now c.args.place)
+pub slice_bounds-result-end : goal.slice_bounds-result-end
+slice_bounds-result-end c = omega (arith, length-row_in c.args.self.now.bytes.now c.args.place)
 
 pub returns : goal.returns
 returns c =

@@ -27,15 +27,15 @@ returns c =
     let a : ℕ = 241 * p + 1 in
     let k : ℕ = a + length row - a in
     let xs : List ℕ = set bs (241 * p) (length row) in
-    let ys = c.copy-from-slice.new.self in
-    let e : k ≡ length ys = omega (arith, ap length c.copy-from-slice.ensures.after) in
+    let ys = c.copy_from_slice.new.self in
+    let e : k ≡ length ys = omega (arith, ap length c.copy_from_slice.ensures.after) in
     let fits : a + k ≤ length xs = omega (arith, c.requires, length-set bs (241 * p) (length row)) in
     let size : get_or (put_mid a k xs ys) (241 * p) 0 ≡ length row = put_below a k xs ys e fits (241 * p) (omega arith) ∙ get_or-set_same bs (241 * p) (length row) 0 (omega (arith, c.requires)) in
     record {
       len = length-put a k xs ys e fits ∙ length-set bs (241 * p) (length row);
       here = ap (λ n. map (λ j. get_or (put_mid a k xs ys) (a + j) 0) (range_with_len 0 n)) size
           ∙ sym (fill_by_all (λ j. get_or (put_mid a k xs ys) (a + j) 0) row (length row) 0 refl
-          (λ j l. sym (put_here a k xs ys e fits j (omega arith) ∙ ap (λ zs. get_or zs j 0) c.copy-from-slice.ensures.after)));
+          (λ j l. sym (put_here a k xs ys e fits j (omega arith) ∙ ap (λ zs. get_or zs j 0) c.copy_from_slice.ensures.after)));
       others = λ q ne i l. ⊎_elim
           (λ b. put_below a k xs ys e fits (241 * q + i) (omega arith))
           (λ b. put_above a k xs ys e fits (241 * q + i) (omega (arith, c.requires, ne)))

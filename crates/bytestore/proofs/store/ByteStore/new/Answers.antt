@@ -10,7 +10,15 @@ none_covers t p h =
     let empty : Covers none p = subst (λ r. Covers r p) (⊎_elim (λ l. get_or-replicate 16 t none none l) (λ l. get_or_past (replicate 16 none) t none l) (cases_lt t 16)) h in
     omega (arith, empty)
 
-pub invariant-of-result : goal.invariant-of-result
-invariant-of-result c =
+pub invariant_of-result : goal.invariant_of-result
+invariant_of-result c =
     let sound = sound_empty (c.min-places.result - 0) (omega arith) in
-    (refl, ((omega arith, omega arith), ((λ t p h. absurd (none_covers t p h)), ((λ s. absurd (none_covers s.one s.place s.in_one)), (sound.limited, (sound.sized, (sound.roomy, tt)))))))
+    record {
+      long = refl;
+      fits = (omega arith, omega arith);
+      within = λ t p h. absurd (none_covers t p h);
+      apart = λ s. absurd (none_covers s.one s.place s.in_one);
+      limited = sound.limited;
+      sized = sound.sized;
+      roomy = sound.roomy;
+    }

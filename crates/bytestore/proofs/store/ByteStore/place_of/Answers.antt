@@ -8,16 +8,16 @@ pub returns-then-place-region : goal.returns-then-place-region
 returns-then-place-region c =
     let s = c.args.self.now in
     let t = c.args.number in
-    let h = c.in-ok-region.ensures.found in
-    let q = parts s t c.in-ok-region.region h.0 in
+    let h = c.in_ok-region.ensures.found in
+    let q = parts s t c.in_ok-region.region h.0 in
     record { result = err_at _ _ _ (cond-true _ _ _ (used_at s t h.2) ∙ cond-false _ _ _ (place_past s t h.2 c.args.place (omega (arith, q)))); found = tt }
 
 pub returns : goal.returns
 returns c =
     let s = c.args.self.now in
     let t = c.args.number in
-    let h = c.in-ok-region.ensures.found in
-    let q = parts s t c.in-ok-region.region h.0 in
+    let h = c.in_ok-region.ensures.found in
+    let q = parts s t c.in_ok-region.region h.0 in
     record {
       result = ok_at _ _ _ (cond-true _ _ _ (used_at s t h.2) ∙ cond-true _ _ _ (place_at s t h.2 c.args.place (omega (arith, q)))) (omega (arith, q));
       found = (omega (arith, q), h.1, h.2, omega (arith, q));

@@ -24,35 +24,35 @@ pub returns-then-region : goal.returns-then-region
 returns-then-region c =
     let s = c.args.self.now in
     let t = c.args.number in
-    let h = c.in-ok-region.ensures in
-    let q = parts s t c.in-ok-region.region h.found.0 in
-    let o = last_need s t c.args.row.now (none_at_ok _ _ _ h.result) (none_at_ok _ _ _ c.in-ok-check-row.ensures) ∙ cond-false _ _ _ (full_at s t h.found.2 (omega (arith, q))) in
+    let h = c.in_ok-region.ensures in
+    let q = parts s t c.in_ok-region.region h.found.0 in
+    let o = last_need s t c.args.row.now (none_at_ok _ _ _ h.result) (none_at_ok _ _ _ c.in_ok-check_row.ensures) ∙ cond-false _ _ _ (full_at s t h.found.2 (omega (arith, q))) in
     record { result = err_at _ _ _ o; after = old_at _ _ _ _ o }
 
 pub store-requires : goal.store-requires
 store-requires c =
     let s = c.args.self.now in
     let t = c.args.number in
-    let h = c.in-ok-region.ensures in
-    let q = parts s t c.in-ok-region.region h.found.0 in
-    let o = met s t c.args.row.now c.in-ok-region.region (none_at_ok _ _ _ h.result) (none_at_ok _ _ _ c.in-ok-check-row.ensures) h.found.0 c.if-region.false in
+    let h = c.in_ok-region.ensures in
+    let q = parts s t c.in_ok-region.region h.found.0 in
+    let o = met s t c.args.row.now c.in_ok-region.region (none_at_ok _ _ _ h.result) (none_at_ok _ _ _ c.in_ok-check_row.ensures) h.found.0 c.if-region.false in
     (omega (arith, q, place_fits s t (region_of s t).count (omega (arith, q))), (append_met (meaning_of s) t c.args.row.now o).2)
 
-pub invariant-of-self : goal.invariant-of-self
-invariant-of-self c =
+pub invariant_of-self : goal.invariant_of-self
+invariant_of-self c =
     let s = c.args.self.now in
     let t = c.args.number in
-    let h = c.in-ok-region.ensures in
-    let q = parts s t c.in-ok-region.region h.found.0 in
-    let o = met s t c.args.row.now c.in-ok-region.region (none_at_ok _ _ _ h.result) (none_at_ok _ _ _ c.in-ok-check-row.ensures) h.found.0 c.if-region.false in
+    let h = c.in_ok-region.ensures in
+    let q = parts s t c.in_ok-region.region h.found.0 in
+    let o = met s t c.args.row.now c.in_ok-region.region (none_at_ok _ _ _ h.result) (none_at_ok _ _ _ c.in_ok-check_row.ensures) h.found.0 c.if-region.false in
     (append_after s t c.store.new.self.bytes.now c.store.ensures.len _ c.args.row.now c.store.ensures.here c.store.ensures.others _ o (omega (arith, q)) (omega (arith, q))).owed
 
 pub returns : goal.returns
 returns c =
     let s = c.args.self.now in
     let t = c.args.number in
-    let h = c.in-ok-region.ensures in
-    let q = parts s t c.in-ok-region.region h.found.0 in
-    let o = met s t c.args.row.now c.in-ok-region.region (none_at_ok _ _ _ h.result) (none_at_ok _ _ _ c.in-ok-check-row.ensures) h.found.0 c.if-region.false in
+    let h = c.in_ok-region.ensures in
+    let q = parts s t c.in_ok-region.region h.found.0 in
+    let o = met s t c.args.row.now c.in_ok-region.region (none_at_ok _ _ _ h.result) (none_at_ok _ _ _ c.in_ok-check_row.ensures) h.found.0 c.if-region.false in
     let e = (append_after s t c.store.new.self.bytes.now c.store.ensures.len _ c.args.row.now c.store.ensures.here c.store.ensures.others _ o (omega (arith, q)) (omega (arith, q))).means in
     record { result = ok_at _ _ _ o refl; after = new_at _ _ _ _ o e }

@@ -3,27 +3,27 @@ use Rattle.rowmodel.proofs.Refusals.{ok_at, new_at, none_at_ok}
 use Rattle.bytestore.proofs.After.{end_fits, drop_after}
 use Rattle.bytestore.proofs.store.ByteStoreRowStore.drop_table.Goals as goal
 
-pub overflow-sub-top : goal.overflow-sub-top
-overflow-sub-top c = let h = c.in-ok-gone.ensures.found in omega (arith, end_fits c.args.self.now c.args.number c.in-ok-gone.gone h.0 h.2)
+pub overflow_sub-top : goal.overflow_sub-top
+overflow_sub-top c = let h = c.in_ok-gone.ensures.found in omega (arith, end_fits c.args.self.now c.args.number c.in_ok-gone.gone h.0 h.2)
 
-pub move-down-requires : goal.move-down-requires
-move-down-requires c =
-    let h = c.in-ok-gone.ensures.found in
-    (omega arith, omega (arith, c.args.self.now.fits, end_fits c.args.self.now c.args.number c.in-ok-gone.gone h.0 h.2))
+pub move_down-requires : goal.move_down-requires
+move_down-requires c =
+    let h = c.in_ok-gone.ensures.found in
+    (omega arith, omega (arith, c.args.self.now.fits, end_fits c.args.self.now c.args.number c.in_ok-gone.gone h.0 h.2))
 
-pub overflow-sub-self : goal.overflow-sub-self
-overflow-sub-self c = let h = c.in-ok-gone.ensures.found in omega (arith, end_fits c.args.self.now c.args.number c.in-ok-gone.gone h.0 h.2)
+pub overflow_sub-self : goal.overflow_sub-self
+overflow_sub-self c = let h = c.in_ok-gone.ensures.found in omega (arith, end_fits c.args.self.now c.args.number c.in_ok-gone.gone h.0 h.2)
 
-pub invariant-of-self : goal.invariant-of-self
-invariant-of-self c =
-    let h = c.in-ok-gone.ensures in
-    (drop_after c.args.self.now c.args.number c.in-ok-gone.gone h.found.0 h.found.2 c.move-down.new.self.bytes.now c.end-end.result c.move-down.ensures.len c.end-end.ensures
-    c.move-down.ensures.moved c.move-down.ensures.below c.closed-up-regions.result c.closed-up-regions.ensures (none_at_ok _ _ _ h.result)).owed
+pub invariant_of-self : goal.invariant_of-self
+invariant_of-self c =
+    let h = c.in_ok-gone.ensures in
+    (drop_after c.args.self.now c.args.number c.in_ok-gone.gone h.found.0 h.found.2 c.move_down.new.self.bytes.now c.end-end.result c.move_down.ensures.len c.end-end.ensures
+    c.move_down.ensures.moved c.move_down.ensures.below c.closed_up-regions.result c.closed_up-regions.ensures (none_at_ok _ _ _ h.result)).owed
 
 pub returns : goal.returns
 returns c =
-    let h = c.in-ok-gone.ensures in
+    let h = c.in_ok-gone.ensures in
     let o = none_at_ok _ _ _ h.result in
-    let e = (drop_after c.args.self.now c.args.number c.in-ok-gone.gone h.found.0 h.found.2 c.move-down.new.self.bytes.now c.end-end.result c.move-down.ensures.len c.end-end.ensures
-    c.move-down.ensures.moved c.move-down.ensures.below c.closed-up-regions.result c.closed-up-regions.ensures o).means in
+    let e = (drop_after c.args.self.now c.args.number c.in_ok-gone.gone h.found.0 h.found.2 c.move_down.new.self.bytes.now c.end-end.result c.move_down.ensures.len c.end-end.ensures
+    c.move_down.ensures.moved c.move_down.ensures.below c.closed_up-regions.result c.closed_up-regions.ensures o).means in
     record { result = ok_at _ _ _ o refl; after = new_at _ _ _ _ o e }

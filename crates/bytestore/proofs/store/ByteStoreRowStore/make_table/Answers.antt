@@ -37,14 +37,14 @@ returns-then-limit-eq0 c =
     let o = cond-true _ _ _ (available c.args.self.now c.args.number (omega arith) (omega arith)) ∙ cond-false _ _ _ no in
     record { result = err_at _ _ _ o; after = old_at _ _ _ _ o }
 
-pub returns-then-limit-free-rows : goal.returns-then-limit-free-rows
-returns-then-limit-free-rows c =
+pub returns-then-limit-free_rows : goal.returns-then-limit-free_rows
+returns-then-limit-free_rows c =
     let s = c.args.self.now in
     let o = cond-true _ _ _ (available s c.args.number (omega arith) (omega arith)) ∙ cond-true _ _ _ (allowed c.args.limit (omega arith) (omega arith)) ∙ cond-false _ _ _ (lt-leb c.args.limit (free_of s) (omega arith)) in
     record { result = err_at _ _ _ o; after = old_at _ _ _ _ o }
 
-pub invariant-of-self : goal.invariant-of-self
-invariant-of-self c =
+pub invariant_of-self : goal.invariant_of-self
+invariant_of-self c =
     let s = c.args.self.now in
     (make_after s c.args.number c.args.limit (met s c.args.number c.args.limit (omega arith) (omega arith) (omega arith) (omega arith) (omega arith))).owed
 

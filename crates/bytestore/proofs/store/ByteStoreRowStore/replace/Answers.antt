@@ -15,23 +15,23 @@ pub store-requires : goal.store-requires
 store-requires c =
     let s = c.args.self.now in
     let t = c.args.number in
-    let h = c.in-ok-at.ensures in
-    let o = met s t c.args.place c.args.row.now (none_at_ok _ _ _ h.result) (none_at_ok _ _ _ c.in-ok-check-row.ensures) in
+    let h = c.in_ok-at.ensures in
+    let o = met s t c.args.place c.args.row.now (none_at_ok _ _ _ h.result) (none_at_ok _ _ _ c.in_ok-check_row.ensures) in
     ((row_fits s t h.found.2 c.args.place _ h.found.3 h.found.0).0, (replace_met (meaning_of s) t c.args.place c.args.row.now o).3)
 
-pub invariant-of-self : goal.invariant-of-self
-invariant-of-self c =
+pub invariant_of-self : goal.invariant_of-self
+invariant_of-self c =
     let s = c.args.self.now in
     let t = c.args.number in
-    let h = c.in-ok-at.ensures in
-    let o = met s t c.args.place c.args.row.now (none_at_ok _ _ _ h.result) (none_at_ok _ _ _ c.in-ok-check-row.ensures) in
+    let h = c.in_ok-at.ensures in
+    let o = met s t c.args.place c.args.row.now (none_at_ok _ _ _ h.result) (none_at_ok _ _ _ c.in_ok-check_row.ensures) in
     (replace_after s t c.store.new.self.bytes.now c.store.ensures.len _ c.args.row.now c.store.ensures.here c.store.ensures.others c.args.place o h.found.0).owed
 
 pub returns : goal.returns
 returns c =
     let s = c.args.self.now in
     let t = c.args.number in
-    let h = c.in-ok-at.ensures in
-    let o = met s t c.args.place c.args.row.now (none_at_ok _ _ _ h.result) (none_at_ok _ _ _ c.in-ok-check-row.ensures) in
+    let h = c.in_ok-at.ensures in
+    let o = met s t c.args.place c.args.row.now (none_at_ok _ _ _ h.result) (none_at_ok _ _ _ c.in_ok-check_row.ensures) in
     let e = (replace_after s t c.store.new.self.bytes.now c.store.ensures.len _ c.args.row.now c.store.ensures.here c.store.ensures.others c.args.place o h.found.0).means in
     record { result = ok_at _ _ _ o refl; after = new_at _ _ _ _ o e }

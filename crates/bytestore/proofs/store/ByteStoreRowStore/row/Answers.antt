@@ -9,7 +9,7 @@ use Rattle.bytestore.proofs.store.ByteStoreRowStore.row.Goals as goal
 
 pub row-requires : goal.row-requires
 row-requires c =
-    let h = c.in-ok-place-of.ensures.found in
+    let h = c.in_ok-place_of.ensures.found in
     row_fits c.args.self.now c.args.number h.2 c.args.place _ h.3 h.0
 
 answered : (s : ByteStore) (t k p : ℕ) (row : List ℕ) → 0 < (region_of s t).limit → k < (region_of s t).count → p ≡ (region_of s t).base + k → row ≡ row_in (bytes_of s) p → row_unmet (meaning_of s) t k ≡ None →
@@ -18,5 +18,5 @@ answered s t k p row some inside e read o = ok_at (row_unmet (meaning_of s) t k)
 
 pub returns : goal.returns
 returns c =
-    let h = c.in-ok-place-of.ensures in
+    let h = c.in_ok-place_of.ensures in
     answered c.args.self.now c.args.number c.args.place _ _ h.found.2 h.found.3 h.found.0 c.row.ensures (none_at_ok _ _ _ h.result)

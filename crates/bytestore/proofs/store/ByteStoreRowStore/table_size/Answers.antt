@@ -8,13 +8,13 @@ use Rattle.bytestore.proofs.Regions.{length-rows}
 use Rattle.bytestore.proofs.Stores.{bytes_of, region_of, meaning_of, limit_small, table_at, count_at, parts}
 use Rattle.bytestore.proofs.store.ByteStoreRowStore.table_size.Goals as goal
 
-pub overflow-cast-result : goal.overflow-cast-result
-overflow-cast-result c =
+pub overflow_cast-result : goal.overflow_cast-result
+overflow_cast-result c =
     let h = c.in-Ok.ensures.found in
     omega (arith, parts c.args.self.now c.args.number c.in-Ok.region h.0, limit_small c.args.self.now c.args.number)
 
-pub overflow-cast-result-in-Ok : goal.overflow-cast-result-in-Ok
-overflow-cast-result-in-Ok c =
+pub overflow_cast-result-in-Ok : goal.overflow_cast-result-in-Ok
+overflow_cast-result-in-Ok c =
     let h = c.in-Ok.ensures.found in
     omega (arith, parts c.args.self.now c.args.number c.in-Ok.region h.0, limit_small c.args.self.now c.args.number, count_at c.args.self.now c.args.number h.2)
 
