@@ -11,6 +11,7 @@ use script::read_lines;
 use std::env;
 use std::fs::File;
 use std::io::{BufWriter, Write};
+use std::process::ExitCode;
 
 fn run(rt: &HostRuntime) -> anyhow::Result<()> {
     let heap = rt.alloc();
@@ -26,10 +27,12 @@ fn run(rt: &HostRuntime) -> anyhow::Result<()> {
     played
 }
 
-fn main(rt: HostRuntime) -> anyhow::Result<()> {
-    let played = run(&rt);
-    if let Err(fault) = &played {
-        eprintln!(rt; "rowplay: {fault}")?;
+fn main(rt: HostRuntime) -> anyhow::Result<ExitCode> {
+    match run(&rt) {
+        Ok(()) => Ok(ExitCode::SUCCESS),
+        Err(fault) => {
+            eprintln!(rt; "rowplay: {fault}")?;
+            Ok(ExitCode::FAILURE)
+        }
     }
-    played
 }

@@ -7,6 +7,7 @@ mod lines;
 mod refusal;
 mod words;
 
+use anyhow::anyhow;
 use commands::parse_command;
 use explain::Explained;
 use lines::{Line, read_line};
@@ -15,6 +16,7 @@ use script::{at_line, read_lines};
 use std::alloc::Global;
 use std::fs::File;
 use std::io::{BufWriter, Write};
+use std::process::ExitCode;
 use std::{env, io};
 
 /// The length of the answer area where a script gives none.
@@ -57,10 +59,10 @@ fn run(rt: &HostRuntime) -> anyhow::Result<()> {
     let mut words = env::args(rt)?;
     let _ = words.next();
     let Some(job) = words.next() else {
-        return Err(USAGE.into());
+        return Err(anyhow!(USAGE));
     };
     if job.as_str() != "explain" {
-        return Err(USAGE.into());
+        return Err(anyhow!(USAGE));
     }
     let script = match words.next() {
         Some(path) => read_lines(heap, File::open(rt, path.as_str())?)?,
@@ -72,10 +74,12 @@ fn run(rt: &HostRuntime) -> anyhow::Result<()> {
     explained
 }
 
-fn main(rt: HostRuntime) -> anyhow::Result<()> {
-    let done = run(&rt);
-    if let Err(fault) = &done {
-        eprintln!(rt; "scql: {fault}")?;
+fn main(rt: HostRuntime) -> anyhow::Result<ExitCode> {
+    match run(&rt) {
+        Ok(()) => Ok(ExitCode::SUCCESS),
+        Err(fault) => {
+            eprintln!(rt; "scql: {fault}")?;
+            Ok(ExitCode::FAILURE)
+        }
     }
-    done
 }
