@@ -1,5 +1,5 @@
 -- The envelope: which bytes are a command, and what its header says.
-use Rattle.std.specs.Prelude.{◌≡◌, ℕ, ◌+◌, ◌<◌, ◌≤◌, Bool, true, false, cond, not, ◌&&◌, ◌||◌, List, [], length, take, is_some, Some, None, Ok, Err, Option, Result, ◌==◌, nat_lt, slice_index}
+use Rattle.std.specs.Prelude.{◌≡◌, ℕ, ◌+◌, ◌<◌, ◌≤◌, Bool, true, false, cond, not, ◌&&◌, ◌||◌, List, length, take, is_some, Some, None, Ok, Err, Option, Result, ◌==◌, nat_lt, slice_index}
 use Rattle.apdu.specs.declared.operation.Operation.{Operation}
 use Rattle.apdu.specs.declared.envelope.Body.{Body}
 use Rattle.apdu.specs.declared.envelope.Envelope.{Envelope}

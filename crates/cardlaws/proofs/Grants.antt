@@ -11,7 +11,7 @@ use Rattle.cardmodel.specs.State.{Bytes, Id, Register, Kind, a_table, a_view, Ob
 use Rattle.cardmodel.specs.Objects.{same, object_named}
 use Rattle.cardmodel.specs.Registers.{has_space, with_one, without_some, with_changed}
 use Rattle.cardmodel.specs.Rights.{admitted, named_by, joined, minus, within, some_right, granted, owns, reaches, grantee_of, same_grantee, grantee_known}
-use Rattle.cardmodel.specs.CatalogueRules.{altered, stands, is_privilege, privilege_of, granting, revoking, given}
+use Rattle.cardmodel.specs.CatalogueRules.{altered, is_privilege, privilege_of, granting, revoking, given}
 use Rattle.cardmodel.specs.Answer.{Capacities}
 use Rattle.cardmodel.proofs.Lists.{none-In, some_inj, first_none}
 use Rattle.cardmodel.proofs.Names.{same_true, same_since, differ_back}

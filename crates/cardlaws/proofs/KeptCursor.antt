@@ -2,7 +2,7 @@
 use Rattle.std.proofs.Common.{◌≡◌, ℕ, Bool, true, false, cond, Some, None, Option, sym, refl, subst}
 use Rattle.cardmodel.specs.Lists.{all}
 use Rattle.cardmodel.specs.State.{Bytes, Id, Catalogue, Rows, Choice, Cursor, absent, declared, on_row, ended}
-use Rattle.cardmodel.specs.Objects.{object_named, Window, window, shows, rows_behind}
+use Rattle.cardmodel.specs.Objects.{object_named, Window, shows, rows_behind}
 use Rattle.cardmodel.specs.Rights.{reaches}
 use Rattle.cardmodel.specs.CatalogueRules.{stands, cursor_kept}
 use Rattle.cardmodel.specs.CursorRules.{through}

@@ -6,7 +6,7 @@ use Rattle.std.proofs.lemmas.List.{length-set, get_or-set_same}
 use Rattle.std.proofs.ByRecursion.{All-set, All-get_or}
 use Rattle.fields.specs.Reader.{Parameter}
 use Rattle.cardmodel.specs.Lists.{any, first, somes}
-use Rattle.cardmodel.specs.State.{Bytes, Id, Row, a_table, Object, Placed, Choice, Cursor, absent, declared, on_row, ended, Card}
+use Rattle.cardmodel.specs.State.{Bytes, Id, Row, Object, Placed, Choice, Cursor, absent, declared, on_row, ended, Card}
 use Rattle.cardmodel.specs.Objects.{is_table, columns_in, over_table, Window, window, shows, shown_column, cell, compared, meets, rows_behind}
 use Rattle.cardmodel.specs.Rights.{may}
 use Rattle.cardmodel.specs.Storing.{replaces}

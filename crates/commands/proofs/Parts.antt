@@ -1,20 +1,19 @@
 -- Every command holds parts of its field, and its faults are in the field or just past it.
-use Rattle.std.proofs.Common.{◌≡◌, ℕ, ◌+◌, ◌*◌, ◌<◌, ◌≤◌, Bool, true, false, cond, eqb, ltb, List, [], ◌∷◌, length, get_or, take, drop, Ok, Err, Result, sym, refl, ap, ◌∙◌, subst, arith}
+use Rattle.std.proofs.Common.{◌≡◌, ℕ, ◌*◌, ◌<◌, ◌≤◌, Bool, true, false, cond, eqb, ltb, List, [], length, drop, Ok, Err, Result, sym, refl, arith}
 use Rattle.std.proofs.lemmas.List.{length-drop, take_all}
-use Rattle.std.proofs.lemmas.Bool.{cases_Bool}
 use Rattle.text.specs.Identifier.{identifies}
 use Rattle.fields.specs.declared.reader.FieldFault.{FieldFault}
 use Rattle.fields.specs.declared.entries.Entry.TheVariants.{Name, Definition, Assignment, Condition, Text}
-use Rattle.fields.specs.Reader.{Read, got, broken, Parameter, parameters, param_at, count_at, identifier_at, byte_at}
+use Rattle.fields.specs.Reader.{got, broken, Parameter, param_at, count_at, identifier_at, byte_at}
 use Rattle.fields.specs.Entries.{entries_at}
 use Rattle.apdu.specs.declared.operation.Operation.{Operation}
 use Rattle.apdu.specs.declared.operation.Operation.TheVariants as operation
 use Rattle.apdu.specs.Operation.{carries_data}
 use Rattle.commands.specs.Codes.{profile_of, right_of}
-use Rattle.commands.specs.Command.{Parsed, Selected, Permitted, present_user, drop_table, drop_view, grant, revoke}
-use Rattle.commands.specs.Parsers.{fault, or_fault, or_else, ended, grants, conditions_at, selection_at, limit_at, right_at, grantee_at, permission_at, saying, only_name, present_user_of, create_user_of, name_of, permission_of, declare_cursor_of, create_view_of, create_table_of, insert_of, update_of}
+use Rattle.commands.specs.Command.{Parsed, Permitted, present_user, drop_table, drop_view, grant, revoke}
+use Rattle.commands.specs.Parsers.{fault, grants, conditions_at, selection_at, limit_at, right_at, grantee_at, permission_at, saying, only_name, present_user_of, name_of, permission_of}
 use Rattle.commands.specs.Parse.{command_of}
-use Rattle.commands.specs.Inside.{Stands, In, AllIn, SelectedIn, PermittedIn, Holds}
+use Rattle.commands.specs.Inside.{In, AllIn, SelectedIn, PermittedIn, Holds}
 use Rattle.commands.proofs.Sure.{Sure, Safe, sure_then, safe_then, sure_or, safe_or, sure_cond, sure_param, sure_count, sure_identifier, sure_byte, all_in, sure_entries, safe_ended}
 
 sure_conditions : (bs : List ℕ) (at : ℕ) → Sure (length bs) (conditions_at bs at) (AllIn bs)

@@ -1,7 +1,7 @@
 -- What holds of everything that is read, and where reading can break off: never past the end of the field.
-use Rattle.std.proofs.Common.{◌≡◌, ℕ, zero, suc, ◌+◌, ◌<◌, ◌≤◌, Bool, true, false, cond, not, ◌&&◌, eqb, ltb, leb, List, [], ◌∷◌, length, get_or, take, drop, Some, None, Ok, Err, Option, Result, sym, refl, ap, ◌∙◌, subst, ⊎_elim, arith}
+use Rattle.std.proofs.Common.{◌≡◌, ℕ, zero, suc, ◌+◌, ◌≤◌, Bool, true, false, cond, ◌&&◌, eqb, ltb, leb, List, ◌∷◌, length, get_or, take, drop, Some, None, Ok, Err, Option, Result, sym, refl, ap, arith}
 use Rattle.std.proofs.lemmas.List.{length-take-le, length-drop}
-use Rattle.std.proofs.lemmas.Bool.{ltb-true, leb-true, cases_Bool}
+use Rattle.std.proofs.lemmas.Bool.{ltb-true, leb-true}
 use Rattle.text.specs.Identifier.{identifies}
 use Rattle.text.specs.Operator.{coded_by}
 use Rattle.fields.specs.declared.reader.FieldFault.{FieldFault}
@@ -11,7 +11,7 @@ use Rattle.fields.specs.Column.{column_of}
 use Rattle.fields.specs.Reader.{Read, got, broken, and_then, or_broken, each, Parameter, parameter_at, behind, parameters, param_at, count_at, identifier_at, byte_at, operator_at}
 use Rattle.fields.specs.Entries.{name_at, rest_at, differ, names, among, entries_at}
 use Rattle.commands.specs.Parsers.{fault, or_fault, or_else, ended}
-use Rattle.commands.specs.Inside.{Stands, In, AllIn}
+use Rattle.commands.specs.Inside.{In, AllIn}
 
 -- what was read has a property, or the fault is not past a limit
 abbrev pub Sure : {X : Type 0} → ℕ → Read X → (X → Type 0) → Type 0

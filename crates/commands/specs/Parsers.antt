@@ -1,5 +1,5 @@
 -- What the data of each operation say: parameters from left to right, up to the first that breaks its form.
-use Rattle.std.specs.Prelude.{ℕ, ◌+◌, ◌-◌, ◌*◌, Bool, true, false, cond, ◌&&◌, ◌||◌, List, [], length, drop, Some, None, Ok, Err, Option, Result, ◌==◌, nat_lt, slice_index, slice_range}
+use Rattle.std.specs.Prelude.{ℕ, ◌*◌, Bool, cond, ◌&&◌, ◌||◌, List, [], length, drop, Some, None, Ok, Err, Option, Result, ◌==◌, nat_lt, slice_index, slice_range}
 use Rattle.text.specs.Identifier.{identifies}
 use Rattle.fields.specs.declared.reader.FieldFault.{FieldFault}
 use Rattle.fields.specs.declared.entries.Entry.TheVariants.{Name, Definition, Assignment, Condition, Text}
@@ -8,7 +8,7 @@ use Rattle.fields.specs.Entries.{entries_at}
 use Rattle.commands.specs.declared.command.Command.{Command}
 use Rattle.commands.specs.declared.command.Right.{Right}
 use Rattle.commands.specs.Codes.{profile_of, right_of}
-use Rattle.commands.specs.Command.{Parsed, Selected, Permitted, said, present_user, create_user, create_table, create_view, drop_table, drop_view, grant, revoke, declare_cursor, insert, update}
+use Rattle.commands.specs.Command.{Parsed, Selected, Permitted, said, present_user, create_user, create_table, create_view, declare_cursor, insert, update}
 
 -- a fault at a place
 abbrev pub fault : {X : Type 0} → ℕ → Result X FieldFault

@@ -1,7 +1,6 @@
 -- How the parameters of a field are read. A field is a command up to the end of its data, so that a position in it is
 -- an offset in the command.
-use Rattle.std.specs.Prelude.{ℕ, zero, suc, ◌+◌, Bool, true, false, cond, ◌&&◌, ◌||◌, List, [], ◌∷◌, length, take, drop, Some, None, Option, ◌==◌, nat_le, nat_lt, slice_index}
-use Rattle.std.specs.Str.{bytes_eq}
+use Rattle.std.specs.Prelude.{ℕ, zero, suc, ◌+◌, cond, ◌&&◌, List, [], ◌∷◌, length, take, drop, Some, None, Option, ◌==◌, nat_le, nat_lt, slice_index}
 use Rattle.text.specs.Identifier.{identifies}
 use Rattle.text.specs.Operator.{coded_by}
 use Rattle.text.specs.declared.operator.Operator.{Operator}

@@ -1,10 +1,10 @@
 -- What holds of every store is kept by every call.
-use Rattle.std.proofs.Common.{◌≡◌, ℕ, zero, suc, ◌+◌, ◌-◌, ◌<◌, ◌≤◌, true, false, ◌≢◌, List, [], ◌∷◌, ◌++◌, length, get_or, set, replicate, None, sym, refl, ap, ◌∙◌, subst, ⊎_elim, arith}
+use Rattle.std.proofs.Common.{◌≡◌, ℕ, ◌+◌, ◌-◌, ◌<◌, ◌≤◌, true, false, List, [], ◌∷◌, ◌++◌, length, get_or, set, replicate, None, sym, refl, ap, ◌∙◌, subst, ⊎_elim, arith}
 use Rattle.std.specs.List.{remove as without}
-use Rattle.std.proofs.lemmas.List.{get_or_past, get_or-set_same, get_or-set_other, get_or_append_left, get_or_push, get_or-replicate, length-set, length_push, length-replicate}
+use Rattle.std.proofs.lemmas.List.{get_or_past, get_or-set_same, get_or-set_other, get_or_append_left, get_or_push, get_or-replicate, length-set, length_push}
 use Rattle.std.proofs.lemmas.List.Edits.{length-remove, get_or-remove_below, get_or-remove_above}
 use Rattle.std.proofs.lemmas.Bool.{cases_lt, cases_eq}
-use Rattle.rowmodel.specs.Meaning.{Table, unused, used, Meaning, empty, table, with_table, with_free, is_used, limit_of, rows_of, with_rows, row_at, allowed, limits, Sound}
+use Rattle.rowmodel.specs.Meaning.{Table, unused, used, Meaning, empty, table, with_table, with_free, is_used, limit_of, rows_of, with_rows, Sound}
 use Rattle.rowmodel.specs.Needs.{make_unmet, drop_unmet, append_unmet, replace_unmet, remove_unmet}
 use Rattle.rowmodel.specs.Calls.{made, dropped, listed, appended, replaced, removed}
 use Rattle.rowmodel.proofs.Needed.{make_met, drop_met, append_met, place_met, replace_met}

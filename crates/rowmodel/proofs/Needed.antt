@@ -1,9 +1,9 @@
 -- What it says that no need of a call is unmet.
 use Rattle.std.proofs.Common.{◌≡◌, ℕ, ◌<◌, ◌≤◌, true, false, not, ◌&&◌, ltb, leb, List, ◌++◌, length, None}
 use Rattle.std.proofs.lemmas.Bool.{ltb-true, leb-true, and_parts, not-true}
-use Rattle.rowmodel.specs.declared.StoreFault.TheVariants.{Unavailable, Unused, Limit, Space, Place, Length, Full, Area}
-use Rattle.rowmodel.specs.Meaning.{Meaning, table, is_used, limit_of, rows_of, row_at, allowed}
-use Rattle.rowmodel.specs.Needs.{unmet, allowed_limit, enough_free, existing_place, allowed_row, below_limit, enough_area, make_unmet, drop_unmet, append_unmet, replace_unmet, row_unmet, copy_unmet}
+use Rattle.rowmodel.specs.declared.StoreFault.TheVariants.{Unavailable, Unused, Limit, Space, Place, Length, Full}
+use Rattle.rowmodel.specs.Meaning.{Meaning, table, is_used, limit_of, rows_of, allowed}
+use Rattle.rowmodel.specs.Needs.{unmet, allowed_limit, enough_free, existing_place, allowed_row, below_limit, make_unmet, drop_unmet, append_unmet, replace_unmet, row_unmet}
 use Rattle.rowmodel.proofs.Refusals.{both_met}
 
 pub allowed_parts : (n : ℕ) → allowed n ≡ true → (1 ≤ n) × (n ≤ 240)

@@ -1,5 +1,5 @@
 -- How an implementation shows an answer, and how a caller reads one.
-use Rattle.std.proofs.Common.{◌≡◌, ℕ, Bool, true, false, cond, Some, None, Ok, Err, Option, Result, sym, refl, ap, ◌∙◌, arith}
+use Rattle.std.proofs.Common.{◌≡◌, ℕ, Bool, true, false, cond, Some, None, Ok, Err, Option, sym, refl, ap, ◌∙◌, arith}
 use Rattle.rowmodel.specs.declared.StoreFault.{StoreFault}
 use Rattle.rowmodel.specs.Needs.{answer, unless}
 

@@ -1,5 +1,5 @@
 -- The needs of the calls. A call is refused exactly if a need is unmet, and names the first one.
-use Rattle.std.specs.Prelude.{ℕ, Bool, true, false, cond, not, ◌&&◌, List, [], ◌∷◌, ◌++◌, length, Some, None, Ok, Err, Option, Result, nat_le, nat_lt}
+use Rattle.std.specs.Prelude.{ℕ, Bool, cond, not, ◌&&◌, List, [], ◌∷◌, ◌++◌, length, Some, None, Ok, Err, Option, Result, nat_le, nat_lt}
 use Rattle.rowmodel.specs.declared.StoreFault.{StoreFault}
 use Rattle.rowmodel.specs.declared.StoreFault.TheVariants.{Unavailable, Unused, Limit, Space, Place, Length, Full, Area}
 use Rattle.rowmodel.specs.Meaning.{Meaning, table, is_used, limit_of, rows_of, row_at, allowed}

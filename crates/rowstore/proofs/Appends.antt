@@ -1,9 +1,9 @@
 -- An accepted append adds one row at the end, and leaves all else.
-use Rattle.std.proofs.Common.{◌≡◌, ℕ, ◌+◌, ◌-◌, ◌<◌, true, cond, ltb, List, [], ◌∷◌, ◌++◌, length, get_or, Some, None, Ok, sym, refl, ap, ◌∙◌, subst, ⊎_elim, arith}
+use Rattle.std.proofs.Common.{◌≡◌, ℕ, ◌-◌, ◌<◌, true, cond, ltb, List, [], ◌∷◌, ◌++◌, length, get_or, Some, None, Ok, sym, refl, ap, ◌∙◌, subst, ⊎_elim, arith}
 use Rattle.std.proofs.lemmas.List.{get_or_past, get_or_append_left, get_or_push, length_push}
 use Rattle.std.proofs.lemmas.Bool.{cases_lt, cases_eq, cond-true, lt-ltb}
 use Rattle.rowmodel.specs.declared.StoreFault.TheVariants.{Unused, Place}
-use Rattle.rowmodel.specs.Meaning.{Table, Meaning, table, is_used, limit_of, rows_of, with_rows, row_at}
+use Rattle.rowmodel.specs.Meaning.{Meaning, table, is_used, limit_of, rows_of, with_rows, row_at}
 use Rattle.rowmodel.specs.Needs.{answer, append_unmet, row_unmet}
 use Rattle.rowmodel.specs.Calls.{appended}
 use Rattle.rowmodel.proofs.Needed.{append_met}

@@ -1,5 +1,5 @@
 -- From the result of a call to the answer that is told.
-use Rattle.std.proofs.Common.{◌≡◌, Some, None, Option, Result, sym, subst, MatchResult}
+use Rattle.std.proofs.Common.{◌≡◌, Some, None, Option, Result, subst, MatchResult}
 use Rattle.rowmodel.specs.declared.StoreFault.{StoreFault}
 use Rattle.rowmodel.specs.Needs.{answer}
 use Rattle.rowstore.specs.declared.call.Answer.{Answer}

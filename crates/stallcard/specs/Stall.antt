@@ -1,12 +1,12 @@
 -- The card of a stall, from the bytes of commands. ANNA, an object owner, hides what she paid (COST); OFFICE, a basic
 -- user, holds her view FEE of the columns NO and AMT of her table DAY.
-use Rattle.std.specs.Prelude.{◌≡◌, ℕ, List, [], ◌∷◌, ◌++◌, codes}
+use Rattle.std.specs.Prelude.{ℕ, List, [], ◌∷◌, ◌++◌, codes}
 use Prim.Native.String.{String}
 use Rattle.std.specs.Option.{unwrap_or}
 use Rattle.hexadecimal.specs.Digits.{decoded}
 use Rattle.cardmodel.specs.State.{Bytes, Card}
 use Rattle.cardmodel.specs.Verdict.{Reply}
-use Rattle.cardmodel.specs.Answer.{Sent, run, replies, new_card}
+use Rattle.cardmodel.specs.Answer.{Sent, run, new_card}
 
 -- bytes, written in hexadecimal digits
 abbrev pub hex : String → Bytes

@@ -1,5 +1,5 @@
 -- Identifiers: a capital letter, then up to seven capitals, digits or underscores.
-use Rattle.std.specs.Prelude.{ℕ, Bool, true, false, ◌&&◌, ◌||◌, List, [], ◌∷◌, length, drop, ◌==◌, nat_le, slice_index}
+use Rattle.std.specs.Prelude.{ℕ, Bool, true, ◌&&◌, ◌||◌, List, [], ◌∷◌, length, drop, ◌==◌, nat_le, slice_index}
 
 abbrev pub capital : ℕ → Bool
 capital c = nat_le 65 c && nat_le c 90

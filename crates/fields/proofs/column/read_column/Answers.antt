@@ -1,4 +1,4 @@
-use Rattle.std.proofs.Common.{◌≡◌, ◌-◌, take, codes, sym, ap, ◌∙◌}
+use Rattle.std.proofs.Common.{◌-◌, take, codes, sym, ap, ◌∙◌}
 use native.Mathlib.Nat.{sub-zero}
 use Rattle.std.proofs.lemmas.Slice.Eq.{slice_eq-Decides}
 use Rattle.fields.proofs.Columns.{column_is}

@@ -1,7 +1,7 @@
-use Rattle.std.proofs.Common.{◌≡◌, ℕ, ◌+◌, ◌*◌, ◌<◌, true, false, eqb, List, [], ◌∷◌, ◌++◌, length, get_or, drop, Some, None, vec_items, Option, unwrap_or, sym, ap, ◌∙◌, subst, arith, rules}
+use Rattle.std.proofs.Common.{◌≡◌, ℕ, ◌+◌, ◌*◌, ◌<◌, true, eqb, List, [], ◌∷◌, ◌++◌, get_or, drop, Some, None, vec_items, Option, unwrap_or, sym, ap, ◌∙◌, subst, arith, rules}
 use Rattle.std.specs.Option.{option_map}
 use Rattle.std.proofs.lemmas.Bool.{or_left, or_right, or_from, eq-eqb, ne_eqb}
-use Rattle.hexadecimal.specs.Digits.{value, blank, take_digit, reading, decoded}
+use Rattle.hexadecimal.specs.Digits.{value, blank, take_digit, reading}
 use Rattle.hexadecimal.proofs.Reading.{read_blank, read_digit, push_before, read_end, read_waiting}
 use Rattle.hexadecimal.proofs.digits.decode.Goals as goal
 use Rattle.hexadecimal.proofs.digits.decode.Goals.{then-c-eq32-via-then-c-eq32, then-c-eq32-via-else-c-eq32+then-c-eq9, in-None, in-Some-high+in_ok-push-in-Some-high}

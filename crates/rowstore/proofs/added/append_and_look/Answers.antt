@@ -1,6 +1,5 @@
-use Rattle.std.proofs.Common.{◌≡◌, ℕ, true, None, sym, ap, ◌∙◌, subst, arith}
+use Rattle.std.proofs.Common.{◌≡◌, ℕ, None, sym, ap, ◌∙◌, subst, arith}
 use Rattle.std.proofs.lemmas.Slice.Eq.{slice_eq-Decides}
-use Rattle.rowmodel.specs.Meaning.{Meaning}
 use Rattle.rowmodel.specs.Needs.{append_unmet}
 use Rattle.rowmodel.specs.Calls.{appended, lent}
 use Rattle.rowmodel.proofs.Refusals.{none_at_ok, new_at_none, ok_at}

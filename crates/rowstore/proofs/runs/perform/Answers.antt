@@ -1,4 +1,4 @@
-use Rattle.std.proofs.Common.{◌≡◌, sym, ap, ◌∙◌}
+use Rattle.std.proofs.Common.{sym, ap, ◌∙◌}
 use Rattle.rowmodel.specs.Needs.{make_unmet, replace_unmet}
 use Rattle.rowstore.specs.Runs.{Held, held, answered, after, request}
 use Rattle.rowstore.proofs.Replies.{ended_at}

@@ -1,4 +1,4 @@
-use Rattle.std.proofs.Common.{◌≡◌, sym, ap, ◌∙◌}
+use Rattle.std.proofs.Common.{sym, ap, ◌∙◌}
 use Rattle.rowstore.specs.Runs.{Held, Request, held, request, after, reply}
 use Rattle.rowstore.proofs.Steps.{same_parts}
 use Rattle.rowstore.proofs.runs.perform_both.Goals as goal

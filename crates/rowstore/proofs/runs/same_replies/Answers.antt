@@ -1,9 +1,9 @@
-use Rattle.std.proofs.Common.{◌≡◌, ℕ, ◌+◌, ◌<◌, Bool, true, false, ◌&&◌, List, map, length, get_or, take, Decides, sym, refl, ap, ◌∙◌, subst, arith}
+use Rattle.std.proofs.Common.{◌≡◌, ◌<◌, Bool, true, false, ◌&&◌, map, length, get_or, take, Decides, sym, refl, ap, ◌∙◌, subst, arith}
 use Rattle.std.proofs.lemmas.List.{take_all}
 use Rattle.std.proofs.lemmas.Bool.{and_right, not-true, not-false}
 use Rattle.rowstore.specs.declared.call.Call.{Call}
 use Rattle.rowstore.specs.declared.call.Call.TheVariants as call
-use Rattle.rowstore.specs.Runs.{Request, Held, held, request, after, reply, run, replies}
+use Rattle.rowstore.specs.Runs.{Request, Held, held, request, reply, run, replies}
 use Rattle.rowstore.proofs.Steps.{run_more, replies_more, same_push}
 use Rattle.rowstore.proofs.runs.same_replies.Goals as goal
 use Rattle.rowstore.proofs.runs.same_replies.Goals.{then-not-both, else-not-both}

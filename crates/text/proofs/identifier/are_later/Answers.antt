@@ -1,6 +1,6 @@
-use Rattle.std.proofs.Common.{◌≡◌, ◌+◌, ◌<◌, true, false, ◌&&◌, length, get_or, drop, sym, ap, ◌∙◌, arith}
+use Rattle.std.proofs.Common.{◌+◌, ◌&&◌, drop, sym, ap, ◌∙◌}
 use Rattle.std.proofs.lemmas.List.{at_drop_more, at_drop_all}
-use Rattle.text.specs.Identifier.{later, all_later}
+use Rattle.text.specs.Identifier.{all_later}
 use Rattle.text.proofs.identifier.are_later.Goals as goal
 
 pub returns-then-not-is_later : goal.returns-then-not-is_later

@@ -1,4 +1,4 @@
-use Rattle.std.proofs.Common.{◌≡◌, sym, ◌∙◌, arith}
+use Rattle.std.proofs.Common.{sym, ◌∙◌, arith}
 use Rattle.text.proofs.Orders.{lower_at, higher_at, level_at, lower_end, higher_end, level_end, order_lawful}
 use Rattle.text.proofs.order.compare.Goals as goal
 

@@ -1,4 +1,4 @@
-use Rattle.std.proofs.Common.{◌≡◌, ◌&&◌, sym, refl, ap, ◌∙◌, arith}
+use Rattle.std.proofs.Common.{◌&&◌, sym, ap, ◌∙◌, arith}
 use Rattle.fields.specs.Reader.{got, broken}
 use Rattle.fields.specs.Entries.{differ, rest_at, names, among}
 use Rattle.fields.proofs.Listing.{entries_all, entries_broken, entries_again, entries_rest}
