@@ -11,35 +11,25 @@ use Rattle.slotstore.proofs.Tables.{Kept}
 use Rattle.slotstore.proofs.Bounds.{in_use}
 use Rattle.slotstore.proofs.Moves.{Moved, stood, moved_within, moved_apart}
 
--- the ghost fields of slots and chains, in their order
+-- the ghost fields of slots and chains, by name
 abbrev pub Ghosts : List Slot → List Chain → Type 0
 Ghosts ss cs =
-    (length cs ≡ 17) × (Within (length ss) (links ss) cs × (Apart (links ss) cs × (Limited (slot_meaning ss cs) × (Sized (slot_meaning ss cs) × (Roomy (slot_meaning ss cs) × Unit {0})))))
+    record { long : length cs ≡ 17; within : Within (length ss) (links ss) cs; apart : Apart (links ss) cs; limited : Limited (slot_meaning ss cs); sized : Sized (slot_meaning ss cs); roomy : Roomy (slot_meaning ss cs) }
 
 -- the slots keep their number, each place was one before, and what the slots and chains mean is sound
 pub keeps : (s : SlotStore) (ss : List Slot) (cs : List Chain) (m : Meaning) →
     length cs ≡ length s.chains → length ss ≡ length s.memory.slots.now → Moved (links s.memory.slots.now) (links ss) s.chains cs → slot_meaning ss cs ≡ m → Sound m →
     Ghosts ss cs
 keeps s ss cs m chains slots moved e sound =
-    let ls = links s.memory.slots.now in (
-      chains ∙ s.long,
-      (
-        subst (λ n. Within n (links ss) cs) (sym slots) (moved_within ls (links ss) s.chains cs moved (length s.memory.slots.now) s.within),
-        (
-          moved_apart ls (links ss) s.chains cs moved s.apart,
-          (
-            subst Limited (sym e) sound.limited,
-            (
-              subst Sized (sym e) sound.sized,
-              (
-                subst Roomy (sym e) sound.roomy,
-                tt,
-              ),
-            ),
-          ),
-        ),
-      ),
-    )
+    let ls = links s.memory.slots.now in
+    record {
+      long = chains ∙ s.long;
+      within = subst (λ n. Within n (links ss) cs) (sym slots) (moved_within ls (links ss) s.chains cs moved (length s.memory.slots.now) s.within);
+      apart = moved_apart ls (links ss) s.chains cs moved s.apart;
+      limited = subst Limited (sym e) sound.limited;
+      sized = subst Sized (sym e) sound.sized;
+      roomy = subst Roomy (sym e) sound.roomy;
+    }
 
 -- the rows lie where they lay
 module _ (s : SlotStore) (ss' : List Slot) (cs' : List Chain) (m : Moved (links s.memory.slots.now) (links ss') s.chains cs') (filled : contents ss' ≡ contents s.memory.slots.now) (u : ℕ) where

@@ -1,4 +1,3 @@
-pub mod Writes
 pub mod Tables
 pub mod Moves
 pub mod Starts

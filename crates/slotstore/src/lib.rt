@@ -1,6 +1,7 @@
 //! A row store over lent slots, with one slot for each row.
 
 #![tactic(auto)]
+
 mod chain;
 mod memory;
 mod slot;

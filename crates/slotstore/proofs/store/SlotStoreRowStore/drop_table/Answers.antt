@@ -12,10 +12,10 @@ use Rattle.slotstore.proofs.Bounds.{meaning_of, sound_of, roomy_with}
 use Rattle.slotstore.proofs.Keeps.{Ghosts, keeps}
 use Rattle.slotstore.proofs.Joins.{joined, join_moved, join_meaning}
 use Rattle.slotstore.proofs.store.SlotStoreRowStore.drop_table.Goals as goal
-use Rattle.slotstore.proofs.store.SlotStoreRowStore.drop_table.Goals.{After-link, at·ghost-self, at·returns}
+use Rattle.slotstore.proofs.store.SlotStoreRowStore.drop_table.Goals.{After-link}
 
-pub overflow-add-self : goal.overflow-add-self
-overflow-add-self c = let h = roomy_with c.args.self.now c.args.number c.in-ok-check-used.ensures.found in omega arith
+pub overflow_add-self : goal.overflow_add-self
+overflow_add-self c = let h = roomy_with c.args.self.now c.args.number c.in_ok-check_used.ensures.found in omega arith
 
 linked : (c : After-link) →
     links c.link.new.self.slots.now
@@ -24,7 +24,7 @@ linked c = c.link.ensures.linked ∙ ap (λ i. set (links c.args.self.now.memory
 
 -- the chains after the call
 abbrev after : After-link → List Chain
-after c = joined c.args.self.now c.args.number c.in-ok-check-used.ensures.found c.link.new.self.slots.now (linked c) c.link.ensures.filled
+after c = joined c.args.self.now c.args.number c.in_ok-check_used.ensures.found c.link.new.self.slots.now (linked c) c.link.ensures.filled
 
 -- no need is unmet, and the slots and chains mean what is left
 done : (c : After-link) →
@@ -35,7 +35,7 @@ done c =
     let s = c.args.self.now in
     let t = c.args.number in
     let ss = c.link.new.self.slots.now in
-    let checked = c.in-ok-check-used.ensures in
+    let checked = c.in_ok-check_used.ensures in
     let o : drop_unmet (meaning_of s) t ≡ None = none_at_ok _ _ _ checked.result in
     let m = join_meaning s t checked.found ss (linked c) c.link.ensures.filled in (
       o,
@@ -44,10 +44,10 @@ done c =
           (join_moved s t checked.found ss (linked c) c.link.ensures.filled) m (sound_dropped (meaning_of s) t (sound_of s) o),
     )
 
-pub invariant-of-self : goal.invariant-of-self
-invariant-of-self c = (done (at·ghost-self c).After-link).2
+pub invariant_of-self : goal.invariant_of-self
+invariant_of-self c = (done (goal.at.invariant_of-self c).After-link).2
 
 pub returns : goal.returns
 returns c =
-    let d = done (at·returns c).After-link in
+    let d = done (goal.at.returns c).After-link in
     record { result = ok_at _ _ _ d.0 refl; after = new_at _ _ _ _ d.0 d.1 }

@@ -15,7 +15,7 @@ use Rattle.slotstore.proofs.Keeps.{Ghosts, keeps}
 use Rattle.slotstore.proofs.Unmet.{unavailable, make_left}
 use Rattle.slotstore.proofs.Cuts.{cut, cut_moved, cut_meaning}
 use Rattle.slotstore.proofs.store.SlotStoreRowStore.make_table.Goals as goal
-use Rattle.slotstore.proofs.store.SlotStoreRowStore.make_table.Goals.{After-reach-rest, at·ghost-self, at·returns}
+use Rattle.slotstore.proofs.store.SlotStoreRowStore.make_table.Goals.{After-reach-rest}
 
 pub returns-then-at-ge-FREE : goal.returns-then-at-ge-FREE
 returns-then-at-ge-FREE c =
@@ -69,10 +69,10 @@ done c =
           (cut_moved (links ss) s.chains t n (omega arith) s.long (omega arith) (omega arith) c.reach-rest.result c.reach-rest.ensures.result) m (sound_made (meaning_of s) t n (sound_of s) o),
     )
 
-pub invariant-of-self : goal.invariant-of-self
-invariant-of-self c = (done (at·ghost-self c).After-reach-rest).2
+pub invariant_of-self : goal.invariant_of-self
+invariant_of-self c = (done (goal.at.invariant_of-self c).After-reach-rest).2
 
 pub returns : goal.returns
 returns c =
-    let d = done (at·returns c).After-reach-rest in
+    let d = done (goal.at.returns c).After-reach-rest in
     record { result = ok_at _ _ _ d.0 refl; after = new_at _ _ _ _ d.0 d.1 }

@@ -13,7 +13,7 @@ use Rattle.slotstore.proofs.Keeps.{Ghosts}
 use Rattle.slotstore.proofs.Removes.{remove_meaning, remove_keeps, last_starts, last_steps}
 use Rattle.slotstore.proofs.Relinks.{relinked, Begins, relinked_starts, relinked_steps, relinked_others}
 use Rattle.slotstore.proofs.store.SlotStoreRowStore.remove.Goals as goal
-use Rattle.slotstore.proofs.store.SlotStoreRowStore.remove.Goals.{Then-k-count, After-link-3, then-k-eq0, else-k-eq0, at·ghost-self, at·returns-then-k-count, at·ghost-self-2, at·returns}
+use Rattle.slotstore.proofs.store.SlotStoreRowStore.remove.Goals.{Then-k-count, After-link-3, then-k-eq0, else-k-eq0}
 
 -- the chains after a call that begins the table's chain at a slot
 abbrev after : SlotStore → ℕ → ℕ → List Chain
@@ -30,42 +30,42 @@ last_done c =
     let t = c.args.number in
     let k = c.args.place in
     let ss = s.memory.slots.now in
-    let found = c.in-ok-taken.ensures.found in
+    let found = c.in_ok-taken.ensures.found in
     let last : k + 1 ≡ (chain_at s.chains t).count = omega (arith, found.1) in
-    let o : remove_unmet (meaning_of s) t k ≡ None = none_at_ok _ _ _ c.in-ok-taken.ensures.result in
+    let o : remove_unmet (meaning_of s) t k ≡ None = none_at_ok _ _ _ c.in_ok-taken.ensures.result in
     let head = (chain_at s.chains t).head in (
       o,
       remove_meaning s t k found.2 found.1 ss head refl (last_starts s t k last) (λ j l. last_steps s t k last j) (λ u j ne l. refl),
       remove_keeps s t k found.2 found.1 ss head refl (last_starts s t k last) (λ j l. last_steps s t k last j) (λ u j ne l. refl) refl o,
     )
 
-pub invariant-of-self : goal.invariant-of-self
-invariant-of-self c = (last_done (at·ghost-self c).Then-k-count).2
+pub invariant_of-self : goal.invariant_of-self
+invariant_of-self c = (last_done (goal.at.invariant_of-self c).Then-k-count).2
 
 pub returns-then-k-count : goal.returns-then-k-count
 returns-then-k-count c =
-    let d = last_done (at·returns-then-k-count c).Then-k-count in
+    let d = last_done (goal.at.returns-then-k-count c).Then-k-count in
     record { result = ok_at _ _ _ d.0 refl; after = new_at _ _ _ _ d.0 d.1 }
 
 early : (c : After-link-3) → c.args.place + 1 < (chain_at c.args.self.now.chains c.args.number).count
-early c = omega (arith, c.in-ok-taken.ensures.found.1)
+early c = omega (arith, c.in_ok-taken.ensures.found.1)
 
-begins : (c : After-link-3) → Begins c.args.self.now c.args.number c.args.place c.in-ok-taken.ensures.found.2 (early c) c.if-k-eq0.head.0 c.if-k-eq0.head.1
+begins : (c : After-link-3) → Begins c.args.self.now c.args.number c.args.place c.in_ok-taken.ensures.found.2 (early c) c.if-k-eq0.head.0 c.if-k-eq0.head.1
 begins c =
     let ls = links c.args.self.now.memory.slots.now in
     let cs = c.args.self.now.chains in
     let t = c.args.number in
-    let taken = value_at_ok _ _ _ c.in-ok-taken.ensures.result in
+    let taken = value_at_ok _ _ _ c.in_ok-taken.ensures.result in
     elim c.if-k-eq0.branch [
       | then-k-eq0 w ↦
-          let front : c.in-ok-taken.taken ≡ spot ls cs t 0 = taken ∙ ap (spot ls cs t) w.if-k-eq0.true in
+          let front : c.in_ok-taken.taken ≡ spot ls cs t 0 = taken ∙ ap (spot ls cs t) w.if-k-eq0.true in
           inl (w.if-k-eq0.true, ap (λ p. p.0) w.head-is ∙ c.next-after.ensures ∙ ap (λ i. get_or ls i 0) front, ap (λ p. p.1) w.head-is ∙ front)
       | else-k-eq0 w ↦ inr (omega arith, ap (λ p. p.0) w.head-is, ap (λ p. p.1) w.head-is ∙ w.reach.ensures.result)
     ]
 
-linked : (c : After-link-3) → links c.link-3.new.self.slots.now ≡ relinked c.args.self.now c.args.number c.args.place c.in-ok-taken.ensures.found.2 (early c) c.if-k-eq0.head.1
+linked : (c : After-link-3) → links c.link-3.new.self.slots.now ≡ relinked c.args.self.now c.args.number c.args.place c.in_ok-taken.ensures.found.2 (early c) c.if-k-eq0.head.1
 linked c =
-    let taken = value_at_ok _ _ _ c.in-ok-taken.ensures.result in
+    let taken = value_at_ok _ _ _ c.in_ok-taken.ensures.result in
     let one = c.link.ensures.linked in
     let two = c.link-2.ensures.linked in
     let three = c.link-3.ensures.linked in
@@ -80,10 +80,10 @@ done c =
     let t = c.args.number in
     let k = c.args.place in
     let ss = c.link-3.new.self.slots.now in
-    let found = c.in-ok-taken.ensures.found in
+    let found = c.in_ok-taken.ensures.found in
     let head = c.if-k-eq0.head.0 in
     let before = c.if-k-eq0.head.1 in
-    let o : remove_unmet (meaning_of s) t k ≡ None = none_at_ok _ _ _ c.in-ok-taken.ensures.result in
+    let o : remove_unmet (meaning_of s) t k ≡ None = none_at_ok _ _ _ c.in_ok-taken.ensures.result in
     let filled = c.link-3.ensures.filled ∙ c.link-2.ensures.filled ∙ c.link.ensures.filled in
     let starts = relinked_starts s t k found.2 (early c) head before (begins c) in
     let steps = relinked_steps s t k found.2 (early c) head before (begins c) (links ss) (linked c) in
@@ -93,10 +93,10 @@ done c =
       remove_keeps s t k found.2 found.1 ss head filled starts steps others (c.link-3.ensures.long ∙ c.link-2.ensures.long ∙ c.link.ensures.long) o,
     )
 
-pub invariant-of-self-2 : goal.invariant-of-self-2
-invariant-of-self-2 c = (done (at·ghost-self-2 c).After-link-3).2
+pub invariant_of-self-2 : goal.invariant_of-self-2
+invariant_of-self-2 c = (done (goal.at.invariant_of-self-2 c).After-link-3).2
 
 pub returns : goal.returns
 returns c =
-    let d = done (at·returns c).After-link-3 in
+    let d = done (goal.at.returns c).After-link-3 in
     record { result = ok_at _ _ _ d.0 refl; after = new_at _ _ _ _ d.0 d.1 }

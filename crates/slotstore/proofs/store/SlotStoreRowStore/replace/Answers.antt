@@ -7,17 +7,17 @@ use Rattle.slotstore.specs.Chain.{spot}
 use Rattle.slotstore.proofs.Bounds.{meaning_of}
 use Rattle.slotstore.proofs.Rows.{replace_meaning, replace_keeps}
 use Rattle.slotstore.proofs.store.SlotStoreRowStore.replace.Goals as goal
-use Rattle.slotstore.proofs.store.SlotStoreRowStore.replace.Goals.{After-write, at·returns}
+use Rattle.slotstore.proofs.store.SlotStoreRowStore.replace.Goals.{After-write}
 
-pub returns-in-err-slot : goal.returns-in-err-slot
-returns-in-err-slot c =
+pub returns-in_err-slot : goal.returns-in_err-slot
+returns-in_err-slot c =
     let m = meaning_of c.args.self.now in
     let t = c.args.number in
     let k = c.args.place in
-    let f = c.in-err-slot.field-0.0 in
+    let f = c.in_err-slot.field-0.0 in
     let o : replace_unmet m t k c.args.row.now ≡ Some f =
-    front_unmet (used_number m t ++ existing_place m t k) (allowed_row c.args.row.now) f (some_at_err _ _ _ c.in-err-slot.ensures.result) in
-    let r : c.from-residual.result ≡ Err f = search rules in
+    front_unmet (used_number m t ++ existing_place m t k) (allowed_row c.args.row.now) f (some_at_err _ _ _ c.in_err-slot.ensures.result) in
+    let r : c.from_residual.result ≡ Err f = search rules in
     record { result = r ∙ err_at _ _ _ o; after = old_at _ _ _ _ o }
 
 -- no need is unmet, and the row is written to its slot
@@ -27,22 +27,22 @@ none c =
     let t = c.args.number in
     let k = c.args.place in
     front_met (used_number (meaning_of s) t ++ existing_place (meaning_of s) t k) (allowed_row c.args.row.now)
-    (none_at_ok (row_unmet (meaning_of s) t k) c.in-ok-slot.slot (spot (links s.memory.slots.now) s.chains t k) c.in-ok-slot.ensures.result)
-    ∙ none_at_ok _ _ _ c.in-ok-check-row.ensures
+    (none_at_ok (row_unmet (meaning_of s) t k) c.in_ok-slot.slot (spot (links s.memory.slots.now) s.chains t k) c.in_ok-slot.ensures.result)
+    ∙ none_at_ok _ _ _ c.in_ok-check_row.ensures
 
 filled : (c : After-write) → contents c.write.new.self.slots.now ≡ set (contents c.args.self.now.memory.slots.now) (spot (links c.args.self.now.memory.slots.now) c.args.self.now.chains c.args.number c.args.place) c.args.row.now
 filled c =
-    c.write.ensures.filled ∙ ap (λ i. set (contents c.args.self.now.memory.slots.now) i c.args.row.now) (value_at_ok _ _ _ c.in-ok-slot.ensures.result)
+    c.write.ensures.filled ∙ ap (λ i. set (contents c.args.self.now.memory.slots.now) i c.args.row.now) (value_at_ok _ _ _ c.in_ok-slot.ensures.result)
 
-pub invariant-of-self : goal.invariant-of-self
-invariant-of-self c =
-    let found = c.in-ok-slot.ensures.found in
+pub invariant_of-self : goal.invariant_of-self
+invariant_of-self c =
+    let found = c.in_ok-slot.ensures.found in
     replace_keeps c.args.self.now c.args.number c.args.place c.args.row.now c.write.new.self.slots.now found.2 found.1 c.write.ensures.linked (filled c) c.write.ensures.long (none c)
 
 pub returns : goal.returns
 returns c =
-    let w = (at·returns c).After-write in
-    let found = c.in-ok-slot.ensures.found in
+    let w = (goal.at.returns c).After-write in
+    let found = c.in_ok-slot.ensures.found in
     record {
       result = ok_at _ _ _ (none w) refl;
       after = new_at _ _ _ _ (none w) (replace_meaning c.args.self.now c.args.number c.args.place c.args.row.now c.write.new.self.slots.now found.2 found.1 c.write.ensures.linked (filled w));

@@ -13,8 +13,8 @@ returns c =
     let t = c.args.number in
     let k = c.args.place in
     let ss = s.memory.slots.now in
-    let slot = c.in-ok-found.found in
-    let e = c.in-ok-found.ensures in
+    let slot = c.in_ok-found.found in
+    let e = c.in_ok-found.ensures in
     ok_at (row_unmet (meaning_of s) t k) c.read.result.now (row_at (meaning_of s) t k) (none_at_ok (row_unmet (meaning_of s) t k) slot (spot (links ss) s.chains t k) e.result)
     (c.read.ensures ∙ ap (λ i. get_or (contents ss) i []) (value_at_ok (row_unmet (meaning_of s) t k) slot (spot (links ss) s.chains t k) e.result)
     ∙ sym (row_here s t k e.found.2 e.found.1))
