@@ -1,6 +1,6 @@
 -- GRANT and REVOKE keep a card sound.
 use Rattle.std.proofs.Common.{◌≡◌, ℕ, Bool, true, false, cond, not, ◌&&◌, ◌||◌, is_some, Some, None, Option, sym, refl, ap, ◌∙◌, subst}
-use Rattle.std.specs.List.{AllByRecursion as All}
+use Rattle.std.specs.List.{AllByRecursion}
 use Rattle.std.proofs.lemmas.Bool.{and_parts, and_from, or_left, or_right}
 use Rattle.std.proofs.ByRecursion.{All-weaker, All-push, all_kept_by}
 use Rattle.commands.specs.declared.command.Right.{Right}
@@ -87,7 +87,7 @@ grantee_swap (user g) (user h) = same_swap g h
 -- Privileges on one object are changed by its owner: what is reached of other objects is the same, and the owner reaches its own.
 module _ (total : ℕ) (z : Capacities) (c : Card) (u : Id) (sound : Sound total z c) (present : c.current ≡ Some u) where
   module _ (o : Object) (found : object_named c.catalogue.objects.records o.name ≡ Some o) (owned : owns u o ≡ true) where
-    privileges_changed : (r : Register Privilege) → Apart one_privilege r.records → All (Granted c.catalogue) r.records → Sized r z.privileges →
+    privileges_changed : (r : Register Privilege) → Apart one_privilege r.records → AllByRecursion (Granted c.catalogue) r.records → Sized r z.privileges →
         ((m : Bytes) → same o.name m ≡ false → granted r.records u m some_right ≡ granted c.catalogue.privileges.records u m some_right) →
         Sound total z (altered c (record {
           catalogue = record { users = c.catalogue.users; objects = c.catalogue.objects; privileges = r; free = c.catalogue.free };

@@ -1,6 +1,6 @@
 -- Cards after a command of rows or of the cursor: what must be shown of them, and the table behind an object.
 use Rattle.std.proofs.Common.{◌≡◌, ℕ, Bool, true, false, cond, ◌&&◌, List, [], Some, None, Option, sym, refl, ap, ◌∙◌, subst}
-use Rattle.std.specs.List.{AllByRecursion as All}
+use Rattle.std.specs.List.{AllByRecursion}
 use Rattle.std.proofs.lemmas.Bool.{and_from, both_ways}
 use Rattle.cardmodel.specs.State.{Bytes, Id, Row, Kind, a_table, a_view, Object, Rows, Choice, Cursor, Card}
 use Rattle.cardmodel.specs.Objects.{same, is_table, named, table_named, columns_in, selection_in, base, Window, window, rows_behind}
@@ -43,7 +43,7 @@ behind os o i f = behind_kind os o.name o.owner o.kind o.definition i f
 
 module _ (total : ℕ) (z : Capacities) (c : Card) (u : Id) (sound : Sound total z c) (present : c.current ≡ Some u) where
   -- the catalogue stays, so only rows and cursor must be looked at; what is told does not matter
-  pub with_step : (s : Step) → All (RowsOf s.rows) c.catalogue.objects.records →
+  pub with_step : (s : Step) → AllByRecursion (RowsOf s.rows) c.catalogue.objects.records →
       ((t : Bytes) → table_named c.catalogue.objects.records t ≡ None → s.rows t ≡ []) →
       Pointed c.catalogue (Some u) s.rows s.cursor → Sound total z (moved c s)
   with_step s rows elsewhere cursor = record {

@@ -1,6 +1,6 @@
 -- What every card keeps that commands can make of a new one.
 use Rattle.std.specs.Prelude.{◌≡◌, ℕ, suc, ◌+◌, ◌<◌, ◌≤◌, Bool, true, false, List, [], ◌∷◌, length, get_or, is_some, Some, None, sum_by, Option, slice_index, slice_index_or}
-use Rattle.std.specs.List.{AllByRecursion as All}
+use Rattle.std.specs.List.{AllByRecursion}
 use Rattle.fields.specs.declared.entries.Entry.TheVariants.{Definition}
 use Rattle.fields.specs.Column.{Column}
 use Rattle.fields.specs.Entries.{entries_at}
@@ -80,8 +80,8 @@ UniqueIn rs p = p.column.unique ≡ true → Apart (level_at p) rs
 -- THE ROWS of a table: at most its limit, of its columns, and unique where they must be
 pub record RowsFormed (o : Object) (rs : List Row) : Type 0 where
   pub within_limit : length rs ≤ limit_of o.kind
-  pub cells : All (RowOf (columns_in o.definition)) rs
-  pub unique : All (UniqueIn rs) (placed 0 (columns_in o.definition))
+  pub cells : AllByRecursion (RowOf (columns_in o.definition)) rs
+  pub unique : AllByRecursion (UniqueIn rs) (placed 0 (columns_in o.definition))
 
 abbrev pub RowsOf : Rows → Object → Type 0
 RowsOf rows o = is_table o ≡ true → RowsFormed o (rows o.name)
@@ -132,10 +132,10 @@ pub record Sound (total : ℕ) (z : Capacities) (c : Card) : Type 0 where
   pub ids : Apart one_id c.catalogue.users.records
   pub pairs : Apart one_privilege c.catalogue.privileges.records
   -- each object is well formed, each privilege holds of what stands
-  pub objects : All (Formed c.catalogue.objects.records) c.catalogue.objects.records
-  pub privileges : All (Granted c.catalogue) c.catalogue.privileges.records
+  pub objects : AllByRecursion (Formed c.catalogue.objects.records) c.catalogue.objects.records
+  pub privileges : AllByRecursion (Granted c.catalogue) c.catalogue.privileges.records
   -- the rows of tables, and none elsewhere
-  pub rows : All (RowsOf c.rows) c.catalogue.objects.records
+  pub rows : AllByRecursion (RowsOf c.rows) c.catalogue.objects.records
   pub elsewhere : (t : Bytes) → table_named c.catalogue.objects.records t ≡ None → c.rows t ≡ []
   -- at most sixteen tables; their limits and the free rows keep their sum; registers keep their size
   pub tables : table_count c.catalogue.objects.records ≤ 16

@@ -1,6 +1,6 @@
 -- Lists of which the first that passes is changed.
 use Rattle.std.proofs.Common.{◌≡◌, suc, Bool, true, false, cond, ◌||◌, List, [], ◌∷◌, length, Some, refl, ap}
-use Rattle.std.specs.List.{AllByRecursion as All}
+use Rattle.std.specs.List.{AllByRecursion}
 use Rattle.cardmodel.specs.Lists.{any, first}
 use Rattle.cardmodel.specs.Registers.{changed_first}
 
@@ -20,11 +20,11 @@ module _ {A : Type 0} where
       go false e ih = rw ih
 
   -- what holds of all, and of the changed one, holds of all of the changed list
-  pub all_changed : (P : A → Type 0) (p : A → Bool) (f : A → A) (xs : List A) → All P xs → ((x : A) → P x → p x ≡ true → first p xs ≡ Some x → P (f x)) → All P (changed_first p f xs)
+  pub all_changed : (P : A → Type 0) (p : A → Bool) (f : A → A) (xs : List A) → AllByRecursion P xs → ((x : A) → P x → p x ≡ true → first p xs ≡ Some x → P (f x)) → AllByRecursion P (changed_first p f xs)
   all_changed P p f [] a h = tt
   all_changed P p f (x ∷ xs) a h = go (p x) refl (all_changed P p f xs a.1) h
     where
-      go : (b : Bool) → p x ≡ b → (((y : A) → P y → p y ≡ true → first p xs ≡ Some y → P (f y)) → All P (changed_first p f xs)) →
-          ((y : A) → P y → p y ≡ true → cond b (Some x) (first p xs) ≡ Some y → P (f y)) → All P (cond b (f x ∷ xs) (x ∷ changed_first p f xs))
+      go : (b : Bool) → p x ≡ b → (((y : A) → P y → p y ≡ true → first p xs ≡ Some y → P (f y)) → AllByRecursion P (changed_first p f xs)) →
+          ((y : A) → P y → p y ≡ true → cond b (Some x) (first p xs) ≡ Some y → P (f y)) → AllByRecursion P (cond b (f x ∷ xs) (x ∷ changed_first p f xs))
       go true e ih h = (h x a.0 e refl, a.1)
       go false e ih h = (a.0, ih h)

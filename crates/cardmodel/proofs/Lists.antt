@@ -1,6 +1,6 @@
 -- Lists: what stands in them, what is found, and what is kept.
 use Rattle.std.proofs.Common.{◌≡◌, ℕ, zero, suc, ◌<◌, ◌≤◌, Bool, true, false, cond, ◌&&◌, ◌||◌, ◌⊎◌, List, [], ◌∷◌, ◌++◌, length, get_or, set, Some, None, sum_by, filter, Option, sym, refl, ap, ◌∙◌, subst, inl, inr, arith}
-use Rattle.std.specs.List.{remove, AllByRecursion as All}
+use Rattle.std.specs.List.{remove, AllByRecursion}
 use Rattle.std.specs.Option.{option_map}
 use Rattle.std.proofs.lemmas.List.Sums.{sum_by-cons}
 use Rattle.std.proofs.lemmas.Bool.{both_ways, and_from, or_cases, or_parts, or_right, or_from}
@@ -20,11 +20,11 @@ module _ {A : Type 0} where
 
   -- two lists joined
   -- what holds of all
-  pub all-In : (P : A → Type 0) {x : A} {xs : List A} → All P xs → In x xs → P x
+  pub all-In : (P : A → Type 0) {x : A} {xs : List A} → AllByRecursion P xs → In x xs → P x
   all-In P a here = a.0
   all-In P a (there i) = all-In P a.1 i
 
-  pub In-all : (P : A → Type 0) (xs : List A) → ((x : A) → In x xs → P x) → All P xs
+  pub In-all : (P : A → Type 0) (xs : List A) → ((x : A) → In x xs → P x) → AllByRecursion P xs
   In-all P [] h = tt
   In-all P (x ∷ xs) h = (h x here, In-all P xs (λ y i. h y (there i)))
 

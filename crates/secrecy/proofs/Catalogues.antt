@@ -1,7 +1,7 @@
 -- The commands that alter the catalogue, on two cards: what a user sees of each table stays, or the user reaches that
 -- table itself, or there is none yet.
 use Rattle.std.proofs.Common.{◌≡◌, ℕ, ◌-◌, Bool, true, false, cond, not, ◌&&◌, ◌||◌, leb, List, [], ◌∷◌, ◌++◌, map, length, is_some, Some, None, filter, Option, sym, refl, ap, ◌∙◌, subst, append-nil}
-use Rattle.std.specs.List.{AllByRecursion as All}
+use Rattle.std.specs.List.{AllByRecursion}
 use Rattle.std.proofs.lemmas.Bool.{both_ways, and_parts, and_right, not-true}
 use Rattle.fields.specs.Reader.{Parameter}
 use Rattle.commands.specs.declared.command.Profile.{Profile}
@@ -106,7 +106,7 @@ map_alike f g (x ∷ xs) h =
 pub owner_whole : (k : Catalogue) (u : Id) (t : Bytes) (o : Object) → In o k.objects.records → is_table o ≡ true → o.name ≡ t → owns u o ≡ true → Whole k u t
 owner_whole k u t o i b n e = record { object = o; stands = i; reach = owner_reaches k.privileges.records u o e; table = b; named = n }
 
-module _ (k : Catalogue) (u : Id) (names : Apart one_name k.objects.records) (formed : All (Formed k.objects.records) k.objects.records) where
+module _ (k : Catalogue) (u : Id) (names : Apart one_name k.objects.records) (formed : AllByRecursion (Formed k.objects.records) k.objects.records) where
   -- CREATE USER
   pub user_changes : (id : Parameter) (p : Profile) → Holds (Changes k u) (creating_user k u id p)
   unfolding creating_user reached

@@ -1,6 +1,6 @@
 -- Cells that a user does not see keep their bytes, and their rows their places.
 use Rattle.std.proofs.Common.{◌≡◌, ℕ, zero, suc, ◌+◌, ◌<◌, Bool, true, false, ◌&&◌, ◌||◌, eqb, ◌⊎◌, List, [], ◌∷◌, length, set, Some, None, sym, refl, ap, ◌∙◌, subst, inl, inr, arith}
-use Rattle.std.specs.List.{range_with_len, AllByRecursion as All}
+use Rattle.std.specs.List.{range_with_len, AllByRecursion}
 use Rattle.std.proofs.lemmas.Bool.{both_ways, and_from, or_left, or_right, eqb-true, eq-eqb}
 use Rattle.cardmodel.specs.Lists.{any}
 use Rattle.cardmodel.specs.State.{Bytes, Id, Row, Object, Catalogue, Rows}
@@ -52,7 +52,7 @@ unfolding cell_shown
 shown_written ws r n [] h = refl
 shown_written ws r n (v ∷ vs) h = rw (meets_written ws v r (h v here), shown_written ws r n vs (λ x i. h x (there i)))
 
-module _ (u : Id) (t : Bytes) (i n : ℕ) (v : Bytes) (k : Catalogue) (f : Rows) (a : All (RowsOf f) k.objects.records) (s : Safe u t i n v k f) where
+module _ (u : Id) (t : Bytes) (i n : ℕ) (v : Bytes) (k : Catalogue) (f : Rows) (a : AllByRecursion (RowsOf f) k.objects.records) (s : Safe u t i n v k f) where
   -- the user does not reach the table itself
   not_whole : Whole k u t → ⊥
   unfolding cell_shown

@@ -1,6 +1,6 @@
 -- Two cards that a user cannot tell apart.
 use Rattle.std.proofs.Common.{◌≡◌, ℕ, ◌<◌, true, List, [], length, get_or, Some, None, sym, ◌∙◌, subst}
-use Rattle.std.specs.List.{AllByRecursion as All}
+use Rattle.std.specs.List.{AllByRecursion}
 use Rattle.cardmodel.specs.State.{Bytes, Id, Row, Object, Catalogue, Rows, Choice, Cursor, absent, declared, on_row, ended, Card}
 use Rattle.cardmodel.specs.Objects.{is_table, table_named, columns_in, Window, window, meets, rows_behind}
 use Rattle.cardmodel.specs.Rights.{reaches}
@@ -34,8 +34,8 @@ pub data Matched (k : Catalogue) (u : Id) (f g : Rows) : Cursor → Cursor → T
 -- what is used of a sound card
 pub record Fit (k : Catalogue) (u : Id) (f : Rows) (c : Cursor) : Type 0 where
   pub names : Apart one_name k.objects.records
-  pub objects : All (Formed k.objects.records) k.objects.records
-  pub rows : All (RowsOf f) k.objects.records
+  pub objects : AllByRecursion (Formed k.objects.records) k.objects.records
+  pub rows : AllByRecursion (RowsOf f) k.objects.records
   pub elsewhere : (t : Bytes) → table_named k.objects.records t ≡ None → f t ≡ []
   pub cursor : Pointed k (Some u) f c
 
@@ -84,15 +84,15 @@ whole-In {k} {u} {t} w =
     subst (λ n. In (window k.objects.records w.object) (reached k u n)) (table_spoken w.object w.table ∙ w.named) (reached-In k u w.object w.stands w.reach)
 
 -- rows of a table have a cell for each of its columns
-pub rows_length : (k : Catalogue) (f : Rows) → All (RowsOf f) k.objects.records → (o : Object) → In o k.objects.records → is_table o ≡ true →
+pub rows_length : (k : Catalogue) (f : Rows) → AllByRecursion (RowsOf f) k.objects.records → (o : Object) → In o k.objects.records → is_table o ≡ true →
     (r : Row) → In r (f o.name) → length r ≡ length (columns_in o.definition)
 rows_length k f a o i t r j = row_length (columns_in o.definition) r (all-In (RowOf (columns_in o.definition)) (all-In (RowsOf f) a i t).cells j)
 
 module _ {k : Catalogue} {u : Id} {t : Bytes} (w : Whole k u t) where
-  pub whole_length : (f : Rows) → All (RowsOf f) k.objects.records → (r : Row) → In r (f t) → length r ≡ length (columns_in w.object.definition)
+  pub whole_length : (f : Rows) → AllByRecursion (RowsOf f) k.objects.records → (r : Row) → In r (f t) → length r ≡ length (columns_in w.object.definition)
   whole_length f a r i = rows_length k f a w.object w.stands w.table r (subst (λ n. In r (f n)) (sym w.named) i)
 
-  pub whole_rows : (f g : Rows) → All (RowsOf f) k.objects.records → All (RowsOf g) k.objects.records → Seen k u f g → f t ≡ g t
+  pub whole_rows : (f g : Rows) → AllByRecursion (RowsOf f) k.objects.records → AllByRecursion (RowsOf g) k.objects.records → Seen k u f g → f t ≡ g t
   whole_rows f g a b q = rows_equal k.objects.records w.object w.table (whole-In w) (f t) (g t) (whole_length f a) (whole_length g b) (q t)
 
   pub whole_place : (rs ss : List Row) (i j : ℕ) → i < length rs → j < length ss → before k u t rs i ≡ before k u t ss j → i ≡ j

@@ -1,6 +1,6 @@
 -- INSERT, UPDATE and DELETE on two cards: they tell the same, and leave the cards alike.
 use Rattle.std.proofs.Common.{◌≡◌, ℕ, ◌<◌, ◌≤◌, Bool, true, false, cond, ◌&&◌, eqb, ltb, List, [], ◌∷◌, ◌++◌, length, get_or, set, None, sym, refl, ◌∙◌, subst, ⊎_elim, arith}
-use Rattle.std.specs.List.{remove, AllByRecursion as All}
+use Rattle.std.specs.List.{remove, AllByRecursion}
 use Rattle.std.proofs.lemmas.Bool.{both_ways, and_from, and_left, and_cases, or_parts, lt-ltb, le-leb}
 use Rattle.fields.specs.Reader.{Parameter}
 use Rattle.cells.specs.Form.{encoded}
@@ -172,7 +172,7 @@ module _ (k : Catalogue) (u : Id) where
         let t = behind os s.object o (all-In (Formed os) fit.objects o) in
         let cs = columns_in t.table.definition in
         let name : t.table.name ≡ spoken s.object = some_inj (sym t.named ∙ window_table os s.object) in
-        let old : RowOf cs x.row = all-In (RowOf cs) (subst (λ n. All (RowOf cs) (rows n)) name (all-In (RowsOf rows) fit.rows t.stands t.a_table).cells) (nth-In (rows (spoken s.object)) i x.row x.stands) in
+        let old : RowOf cs x.row = all-In (RowOf cs) (subst (λ n. AllByRecursion (RowOf cs) (rows n)) name (all-In (RowsOf rows) fit.rows t.stands t.a_table).cells) (nth-In (rows (spoken s.object)) i x.row x.stands) in
         let new : RowOf cs (written ws x.row) = written_row cs ws x.row (λ w j. subst (λ hs. In w.to (placed 0 hs)) t.held (columns w j)) long old in
         let a : length (encoded (written ws x.row)) ≤ row_sum cs = row_storable cs (written ws x.row) new in
         let b : row_sum cs ≤ 240 = (table_formed os t.table (all-In (Formed os) fit.objects t.stands) t.a_table).storable in
