@@ -35,8 +35,8 @@ table_alike bs cs r b h =
 pub length-rows : (bs : List ℕ) (b n : ℕ) → length (rows_from bs b n) ≡ n
 length-rows bs b n = length-map-range_with_len (λ k. row_in bs (b + k)) 0 n
 
-pub get_d_rows : (bs : List ℕ) (b n k : ℕ) → k < n → get_or (rows_from bs b n) k [] ≡ row_in bs (b + k)
-get_d_rows bs b n k l = get_or-map-range_with_len (λ j. row_in bs (b + j)) 0 n k k [] l (omega arith)
+pub get_or_rows : (bs : List ℕ) (b n k : ℕ) → k < n → get_or (rows_from bs b n) k [] ≡ row_in bs (b + k)
+get_or_rows bs b n k l = get_or-map-range_with_len (λ j. row_in bs (b + j)) 0 n k k [] l (omega arith)
 
 -- the table of a number is the one in its region
 table_is : (bs : List ℕ) (rs : List Region) (t : ℕ) → get_or (map (table_in bs) rs) t unused ≡ table_in bs (region rs t)
@@ -67,7 +67,7 @@ module _ (bs : List ℕ) (rs : List Region) (free : ℕ) where
   used_is t some = table_is bs rs t ∙ table_of_used (region rs t).limit _ some
 
   pub row_is : (t k : ℕ) → 0 < (region rs t).limit → k < (region rs t).count → row_at (byte_meaning bs rs free) t k ≡ row_in bs ((region rs t).base + k)
-  row_is t k some l = ap (λ x. get_or (rows_of x) k []) (used_is t some) ∙ get_d_rows bs (region rs t).base (region rs t).count k l
+  row_is t k some l = ap (λ x. get_or (rows_of x) k []) (used_is t some) ∙ get_or_rows bs (region rs t).base (region rs t).count k l
 
   module _ (sound : Sound (byte_meaning bs rs free)) where
     pub count_fits : (t : ℕ) → 0 < (region rs t).limit → (region rs t).count ≤ (region rs t).limit

@@ -9,7 +9,7 @@ use Rattle.rowmodel.proofs.Tables.{map_counting_same, map_counting_set}
 use Rattle.bytestore.specs.Memory.{row_in, Alike}
 use Rattle.bytestore.specs.Region.{rows_from}
 use Rattle.bytestore.proofs.Bytes.{row_in_alike}
-use Rattle.bytestore.proofs.Regions.{length-rows, get_d_rows}
+use Rattle.bytestore.proofs.Regions.{length-rows, get_or_rows}
 
 module _ (bs cs : List ℕ) (b n : ℕ) (small : (k : ℕ) → k < n → length (row_in bs (b + k)) ≤ 240) where
   module _ (p : ℕ) (row : List ℕ) (wrote : row_in cs p ≡ row) (others : (q : ℕ) → q ≢ p → Alike cs q bs q) where
@@ -42,8 +42,8 @@ module _ (bs cs : List ℕ) (b n : ℕ) (small : (k : ℕ) → k < n → length 
 
       here : (j : ℕ) → j < n - 1 → get_or (rows_from cs b (n - 1)) j [] ≡ get_or (without (rows_from bs b n) k) j []
       here j l =
-          get_d_rows cs b (n - 1) j l ∙ ⊎_elim
-          (λ u. row_in_alike bs cs (b + j) (b + j) (small j (omega arith)) (below (b + j) (omega arith)) ∙ sym (get_or-remove_below (rows_from bs b n) k [] j u inside ∙ get_d_rows bs b n j (omega arith)))
+          get_or_rows cs b (n - 1) j l ∙ ⊎_elim
+          (λ u. row_in_alike bs cs (b + j) (b + j) (small j (omega arith)) (below (b + j) (omega arith)) ∙ sym (get_or-remove_below (rows_from bs b n) k [] j u inside ∙ get_or_rows bs b n j (omega arith)))
           (λ u. row_in_alike bs cs (b + (j + 1)) (b + j) (small (j + 1) (omega arith)) (alike j u l)
-          ∙ sym (get_or-remove_above (rows_from bs b n) k [] j u inside ∙ get_d_rows bs b n (j + 1) (omega arith)))
+          ∙ sym (get_or-remove_above (rows_from bs b n) k [] j u inside ∙ get_or_rows bs b n (j + 1) (omega arith)))
           (cases_lt j k)
