@@ -1,5 +1,5 @@
 -- What every card keeps that commands can make of a new one.
-use Rattle.std.specs.Prelude.{◌≡◌, ℕ, suc, ◌+◌, ◌<◌, ◌≤◌, Bool, true, false, List, [], ◌∷◌, length, get_or, is_some, Some, None, sum_by, Option, slice_index, slice_index_or}
+use Rattle.std.specs.Prelude.{◌≡◌, ℕ, suc, ◌+◌, ◌<◌, ◌≤◌, Bool, true, false, List, [], ◌∷◌, length, is_some, Some, None, sum_by, Option, slice_index, slice_index_or}
 use Rattle.std.specs.List.{AllByRecursion}
 use Rattle.fields.specs.declared.entries.Entry.TheVariants.{Definition}
 use Rattle.fields.specs.Column.{Column}
@@ -38,7 +38,7 @@ placed n (c ∷ cs) = record { number = n; column = c } ∷ placed (suc n) cs
 -- stored; and its limit is one that a store allows.
 pub record TableFormed (definition : Bytes) (limit : ℕ) : Type 0 where
   pub least : 1 ≤ slice_index definition 0
-  pub most : get_or definition 0 0 ≤ 12
+  pub most : slice_index definition 0 ≤ 12
   pub reads : entries_at Definition definition 1 0 1 (slice_index definition 0) ≡ got (slice_index definition 0) (length definition)
   pub short : length definition ≤ 200
   pub storable : row_sum (columns_in definition) ≤ 240

@@ -165,8 +165,8 @@ closed_card free z = card_with (empty z.users) z free
 
 -- ISSUING a blank card over a store: the check says yes exactly if the store has no table and there is space for a user.
 abbrev pub may_issue : Bool → Capacities → Bool
-may_issue store-empty z = store-empty && nat_lt 0 z.users
+may_issue store_empty z = store_empty && nat_lt 0 z.users
 
 -- After a yes it is a new card, and after a no one with nobody registered, whatever the store holds.
 abbrev pub issued : Bool → ℕ → Capacities → Card
-issued store-empty free z = cond (may_issue store-empty z) (new_card free z) (closed_card free z)
+issued store_empty free z = cond (may_issue store_empty z) (new_card free z) (closed_card free z)

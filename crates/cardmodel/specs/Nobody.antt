@@ -5,4 +5,4 @@ use Rattle.cardmodel.specs.Answer.{Sent, reply, is_accepted, Capacities, may_iss
 
 pub record NobodyServed : Type 0 where
   pub unregistered : (c : Card) → c.catalogue.users.records ≡ [] → c.current ≡ None → (m : Sent) → is_accepted (reply c m) ≡ false
-  pub closed : (store-empty : Bool) (free : ℕ) (z : Capacities) → may_issue store-empty z ≡ false → (m : Sent) → is_accepted (reply (issued store-empty free z) m) ≡ false
+  pub closed : (store_empty : Bool) (free : ℕ) (z : Capacities) → may_issue store_empty z ≡ false → (m : Sent) → is_accepted (reply (issued store_empty free z) m) ≡ false

@@ -129,7 +129,7 @@ local_verdicts k u f g x m left right q = each_two (serving k u f x) (serving k 
     go delete_row e = rows _ _ (deleting_local k u f g q x left.cursor)
 
 pub locality : Locality
-locality total other-total z other-z c d sc sd u q m =
+locality total other_total z other_z c d sc sd u q m =
     subst (λ y. Answers y d) (sym left_is) (subst (λ y. Answers (serving c.catalogue u c.rows c.cursor) y) (sym right_is) (l.told, l.equal))
   where
     Answers : Card → Card → Type 0
@@ -144,7 +144,7 @@ locality total other-total z other-z c d sc sd u q m =
     right : Fit c.catalogue u d.rows c.cursor
     right =
         subst (λ k. Fit k u d.rows c.cursor) (sym q.catalogue)
-        (subst (Fit d.catalogue u d.rows) (sym q.cursor) (sound_fit other-total other-z d u sd q.right_user))
+        (subst (Fit d.catalogue u d.rows) (sym q.cursor) (sound_fit other_total other_z d u sd q.right_user))
 
     l : LocalVerdicts c.catalogue u c.rows d.rows c.cursor m (verdict (serving c.catalogue u c.rows c.cursor) m) (verdict (serving c.catalogue u d.rows c.cursor) m)
     l = local_verdicts c.catalogue u c.rows d.rows c.cursor m (sound_fit total z c u sc q.left_user) right q.rows

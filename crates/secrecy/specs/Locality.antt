@@ -25,5 +25,5 @@ pub record EqualWithinReach (u : Id) (c d : Card) : Type 0 where
 -- LOCALITY: such cards give equal replies to every command, and are such cards again unless another user is presented.
 abbrev pub Locality : Type 0
 Locality =
-    (total other-total : ℕ) (z other-z : Capacities) (c d : Card) → Sound total z c → Sound other-total other-z d → (u : Id) → EqualWithinReach u c d →
+    (total other_total : ℕ) (z other_z : Capacities) (c d : Card) → Sound total z c → Sound other_total other_z d → (u : Id) → EqualWithinReach u c d →
     (m : Sent) → (reply c m ≡ reply d m) × (PresentsNobody c m → EqualWithinReach u (after c m) (after d m))
