@@ -1,4 +1,4 @@
-ghost use Rattle.std.specs.Prelude.{◌≡◌, ◌&&◌, MatchBool, MatchOption};
+ghost use Rattle.std.specs.Prelude.{◌≡◌, ◌&&◌, MatchOption};
 ghost use Rattle.fields.specs.Reader.{got, broken};
 ghost use Rattle.fields.specs.Entries.{name_at, rest_at, differ, names, among, entries_at};
 ghost use Rattle.fields.specs.declared.entries.Entry.TheVariants.{Definition};

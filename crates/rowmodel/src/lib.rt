@@ -59,6 +59,8 @@ impl StoreFault {
 impl fmt::Display for StoreFault {
     ghost output = { λ x. Some (in_words x) };
 
+    ghost styled_output = { λ x _. Some (in_words x) };
+
     fn fmt<W: fmt::Write>(&self, f: &mut fmt::Formatter<W>) -> fmt::Result {
         f.write_str(self.words())
     }

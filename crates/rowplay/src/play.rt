@@ -1,5 +1,5 @@
 //! Plays a script on two stores side by side.
-ghost use Rattle.std.specs.Prelude.{◌<◌, ◌≤◌, length, IfOk};
+ghost use Rattle.std.specs.Prelude.{◌≤◌, IfOk};
 
 use crate::line::{Line, LineFault, read_line};
 use crate::say::Said;
