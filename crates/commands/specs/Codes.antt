@@ -1,5 +1,5 @@
--- The codes of profiles and rights.
-use Rattle.std.specs.Prelude.{ℕ, Bool, cond, ◌&&◌, List, length, Some, None, Option, ◌==◌, slice_index}
+-- The codes of profiles and rights, and their words.
+use Rattle.std.specs.Prelude.{ℕ, Bool, cond, ◌&&◌, List, length, Some, None, Option, codes, ◌==◌, slice_index}
 use Rattle.commands.specs.declared.command.Profile.{Profile}
 use Rattle.commands.specs.declared.command.Profile.TheVariants.{ObjectOwner, BasicUser}
 use Rattle.commands.specs.declared.command.Right.{Right}
@@ -17,3 +17,14 @@ abbrev pub right_of : ℕ → Option Right
 right_of code =
     cond (code == 0x41) (Some Insert) (cond (code == 0x42) (Some Select) (cond (code == 0x44) (Some Update)
     (cond (code == 0x48) (Some Delete) (cond (code == 0x4F) (Some All) None))))
+
+abbrev pub profile_word : Profile → List ℕ
+profile_word ObjectOwner = codes "DBOO"
+profile_word BasicUser = codes "DBBU"
+
+abbrev pub right_word : Right → List ℕ
+right_word Insert = codes "INSERT"
+right_word Select = codes "SELECT"
+right_word Update = codes "UPDATE"
+right_word Delete = codes "DELETE"
+right_word All = codes "ALL"

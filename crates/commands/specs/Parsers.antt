@@ -2,6 +2,7 @@
 use Rattle.std.specs.Prelude.{ℕ, ◌*◌, Bool, cond, ◌&&◌, ◌||◌, List, [], length, drop, Some, None, Ok, Err, Option, Result, ◌==◌, nat_lt, slice_index, slice_range}
 use Rattle.text.specs.Identifier.{identifies}
 use Rattle.fields.specs.declared.reader.FieldFault.{FieldFault}
+use Rattle.fields.specs.declared.entries.Entry.{Entry}
 use Rattle.fields.specs.declared.entries.Entry.TheVariants.{Name, Definition, Assignment, Condition, Text}
 use Rattle.fields.specs.Reader.{Read, got, broken, and_then, or_broken, Parameter, parameters, param_at, count_at, identifier_at, byte_at}
 use Rattle.fields.specs.Entries.{entries_at}
@@ -47,6 +48,14 @@ only_name bs = or_fault (identifier_at bs 5) (λ name p. ended bs p name)
 
 abbrev pub name_of : List ℕ → (Parameter → Parsed) → Result Parsed FieldFault
 name_of bs k = saying (only_name bs) k
+
+-- how many parameters so many entries are
+abbrev pub parameters_of : Entry → ℕ → ℕ
+parameters_of Name n = n
+parameters_of Definition n = n
+parameters_of Assignment n = 2 * n
+parameters_of Condition n = 3 * n
+parameters_of Text n = n
 
 -- conditions, which may be left out: a count of 0 to 4, and as many columns, operators and strings
 unfoldable pub conditions_at : List ℕ → ℕ → Read (List Parameter)

@@ -1,29 +1,70 @@
-ghost use Rattle.std.specs.Prelude.{◌≡◌};
-ghost use Rattle.commands.specs.Codes.{profile_of, right_of};
+ghost use Rattle.std.specs.Prelude.{◌≡◌, Some};
+ghost use Rattle.std.specs.Result.{result_ok};
+ghost use Rattle.commands.specs.Codes.{profile_of, right_of, profile_word, right_word};
 
 use crate::command::{Profile, Right};
+use std::fmt;
 
-/// The profile that a text names.
-pub(crate) fn read_profile(text: &[u8]) -> Option<Profile>
-    ensures { result ≡ profile_of text.now }
-{
-    match text {
-        b"DBOO" => Some(Profile::ObjectOwner),
-        b"DBBU" => Some(Profile::BasicUser),
-        _ => None,
+/// A text that names no profile.
+#[derive(Clone, Copy, PartialEq, Eq, Debug)]
+pub struct UnknownProfile;
+
+impl TryFrom<&[u8]> for Profile {
+    type Error = UnknownProfile;
+
+    ghost try_from_gives = { λ text r. result_ok r ≡ profile_of text.now };
+
+    fn try_from(text: &[u8]) -> Result<Profile, UnknownProfile> {
+        match text {
+            b"DBOO" => Ok(Profile::ObjectOwner),
+            b"DBBU" => Ok(Profile::BasicUser),
+            _ => Err(UnknownProfile),
+        }
     }
 }
 
-/// The right of a code.
-pub(crate) fn read_right(code: u8) -> Option<Right>
-    ensures { result ≡ right_of code }
-{
-    match code {
-        0x41 => Some(Right::Insert),
-        0x42 => Some(Right::Select),
-        0x44 => Some(Right::Update),
-        0x48 => Some(Right::Delete),
-        0x4F => Some(Right::All),
-        _ => None,
+impl fmt::Display for Profile {
+    ghost output = { λ p. Some (profile_word p) };
+
+    fn fmt<W: fmt::Write>(&self, f: &mut fmt::Formatter<W>) -> fmt::Result {
+        f.write_str(match self {
+            Profile::ObjectOwner => "DBOO",
+            Profile::BasicUser => "DBBU",
+        })
+    }
+}
+
+/// A code that no right has.
+#[derive(Clone, Copy, PartialEq, Eq, Debug)]
+pub struct UnknownRight(pub u8);
+
+impl TryFrom<u8> for Right {
+    type Error = UnknownRight;
+
+    ghost try_from_gives = { λ code r. result_ok r ≡ right_of code };
+
+    fn try_from(code: u8) -> Result<Right, UnknownRight> {
+        match code {
+            0x41 => Ok(Right::Insert),
+            0x42 => Ok(Right::Select),
+            0x44 => Ok(Right::Update),
+            0x48 => Ok(Right::Delete),
+            0x4F => Ok(Right::All),
+            _ => Err(UnknownRight(code)),
+        }
+    }
+}
+
+impl fmt::Display for Right {
+    ghost output = { λ r. Some (right_word r) };
+
+    fn fmt<W: fmt::Write>(&self, f: &mut fmt::Formatter<W>) -> fmt::Result {
+        f.write_str(match self {
+            Right::Insert => "INSERT",
+            Right::Select => "SELECT",
+            Right::Update => "UPDATE",
+            Right::Delete => "DELETE",
+            Right::All => "ALL",
+        })
     }
 }

@@ -1,7 +1,7 @@
 use fields::{Part, Parts};
 
 /// The profiles that a user can be created with.
-#[derive(Clone, Copy)]
+#[derive(Clone, Copy, PartialEq, Eq, Debug)]
 pub enum Profile {
     /// DBOO: owns objects.
     ObjectOwner,
@@ -10,7 +10,7 @@ pub enum Profile {
 }
 
 /// The rights that a GRANT or a REVOKE names.
-#[derive(Clone, Copy)]
+#[derive(Clone, Copy, PartialEq, Eq, Debug)]
 pub enum Right {
     Insert,
     Select,
@@ -21,7 +21,7 @@ pub enum Right {
 }
 
 /// An object, columns of it (none named: all), and conditions: for each a column, an operator's code and a string.
-#[derive(Clone, Copy)]
+#[derive(Clone, Copy, PartialEq, Eq, Debug)]
 pub struct Selection<'a> {
     pub source: Part<'a>,
     pub columns: Parts<'a>,
@@ -29,7 +29,7 @@ pub struct Selection<'a> {
 }
 
 /// What GRANT and REVOKE say. The place is that of the right's code.
-#[derive(Clone, Copy)]
+#[derive(Clone, Copy, PartialEq, Eq, Debug)]
 pub struct Permission<'a> {
     pub place: usize,
     pub right: Right,
@@ -38,7 +38,7 @@ pub struct Permission<'a> {
 }
 
 /// A command that was understood. All that it holds are parts of the command, with their offsets.
-#[derive(Clone, Copy)]
+#[derive(Clone, Copy, PartialEq, Eq, Debug)]
 pub enum Command<'a> {
     PresentUser {
         id: Part<'a>,

@@ -8,6 +8,7 @@ mod parse;
 mod parsers;
 mod status;
 
+pub use codes::{UnknownProfile, UnknownRight};
 pub use command::{Command, Permission, Profile, Right, Selection};
 pub use parse::{CommandFault, parse_command};
-pub use status::{Status, status_of};
+pub use status::Status;

@@ -6,15 +6,14 @@ ghost use Rattle.commands.specs.Parsers.{told};
 
 use crate::command::Command;
 use crate::parsers::{
-    parse_create_table, parse_create_user, parse_create_view, parse_declare_cursor,
-    parse_drop_table, parse_drop_view, parse_grant, parse_insert, parse_present_user, parse_revoke,
-    parse_update,
+    parse_create_table, parse_create_user, parse_create_view, parse_declare_cursor, parse_insert,
+    parse_only_name, parse_permission, parse_present_user, parse_update,
 };
 use apdu::{Envelope, EnvelopeFault, Operation, open_envelope};
 use fields::FieldFault;
 
 /// Why a command is not understood, and by which layer.
-#[derive(Clone, Copy)]
+#[derive(Clone, Copy, PartialEq, Eq, Debug)]
 pub enum CommandFault {
     Envelope(EnvelopeFault),
     Field(FieldFault),
@@ -47,10 +46,22 @@ fn parse_field(envelope: Envelope<'_>) -> Result<Command<'_>, FieldFault>
         Operation::CreateUser => parse_create_user(field),
         Operation::CreateTable => parse_create_table(field),
         Operation::CreateView => parse_create_view(field),
-        Operation::DropTable => parse_drop_table(field),
-        Operation::DropView => parse_drop_view(field),
-        Operation::Grant => parse_grant(field),
-        Operation::Revoke => parse_revoke(field),
+        Operation::DropTable => {
+            let name = parse_only_name(field)?;
+            Ok(Command::DropTable { name })
+        }
+        Operation::DropView => {
+            let name = parse_only_name(field)?;
+            Ok(Command::DropView { name })
+        }
+        Operation::Grant => {
+            let permission = parse_permission(field)?;
+            Ok(Command::Grant { permission })
+        }
+        Operation::Revoke => {
+            let permission = parse_permission(field)?;
+            Ok(Command::Revoke { permission })
+        }
         Operation::DeclareCursor => parse_declare_cursor(field),
         Operation::Open => Ok(Command::Open),
         Operation::Next => Ok(Command::Next),
@@ -68,6 +79,5 @@ pub fn parse_command(command: &[u8], area: usize) -> Result<Command<'_>, Command
     ensures inside { Inside command.now (understood result) }
 {
     let envelope = open_envelope(command, area)?;
-    let command = parse_field(envelope)?;
-    Ok(command)
+    Ok(parse_field(envelope)?)
 }

@@ -1,10 +1,11 @@
-ghost use Rattle.std.specs.Prelude.{◌≡◌, ◌&&◌, length, Ok, Err, MatchOption, MatchResult, ◌==◌, slice_index};
-ghost use Rattle.fields.specs.Reader.{got, broken, parameter, listed};
-ghost use Rattle.commands.specs.Command.{selected, permitted, drop_table, drop_view, grant, revoke};
-ghost use Rattle.commands.specs.Parsers.{told, conditions_at, selection_at, limit_at, right_at, grantee_at, only_name, permission_at, present_user_of, create_user_of, name_of, declare_cursor_of, create_view_of, create_table_of, permission_of, insert_of, update_of};
+ghost use Rattle.std.specs.Prelude.{◌≡◌, ◌&&◌, length, Ok, Err, IfOk, MatchResult, ◌==◌, slice_index};
+ghost use Rattle.fields.specs.Reader.{parameter, parameters, listed};
+ghost use Rattle.fields.specs.Reads.{Reads};
+ghost use Rattle.fields.specs.Entries.{entries_at};
+ghost use Rattle.commands.specs.Command.{selected, permitted};
+ghost use Rattle.commands.specs.Parsers.{told, parameters_of, conditions_at, selection_at, limit_at, right_at, grantee_at, only_name, permission_at, present_user_of, create_user_of, declare_cursor_of, create_view_of, create_table_of, insert_of, update_of};
 
-use crate::codes::{read_profile, read_right};
-use crate::command::{Command, Permission, Right, Selection};
+use crate::command::{Command, Permission, Profile, Right, Selection};
 use fields::{Entry, FieldFault, Part, Parts, Reader};
 use text::is_identifier;
 
@@ -17,58 +18,58 @@ const MOST_CONDITIONS: u8 = 4;
 /// The limit of a table that gives none.
 const USUAL_LIMIT: u8 = 16;
 
-/// Conditions, which may be left out.
-fn read_conditions<'a>(reader: &mut Reader<'a>) -> Option<Parts<'a>>
-    ensures read { MatchOption result (conditions_at reader.old.field.now reader.old.at ≡ broken reader.new.at) (λ x. conditions_at reader.old.field.now reader.old.at ≡ got (listed x) reader.new.at) }
-    ensures same { reader.new.field.now ≡ reader.old.field.now }
+/// How many parameters so many entries of a kind are.
+fn parameters(kind: Entry, count: u8) -> usize
+    ensures { result ≡ parameters_of kind count }
 {
-    let field = reader.field;
+    let count = count as usize;
+    match kind {
+        Entry::Name | Entry::Definition | Entry::Text => count,
+        Entry::Assignment => 2 * count,
+        Entry::Condition => 3 * count,
+    }
+}
+
+/// So many entries of a kind, as parameters.
+fn read_list<'a>(reader: &mut Reader<'a>, kind: Entry, count: u8) -> Result<Parts<'a>, FieldFault>
+    ensures read { Reads (λ bs from. entries_at kind bs from 0 from count) (λ _. count) reader.old reader.new result }
+    ensures list { IfOk result (λ x. listed x ≡ parameters reader.old.field.now reader.old.at (parameters_of kind count)) }
+{
+    let list = Parts {
+        field: reader.field,
+        at: reader.place(),
+        count: parameters(kind, count),
+    };
+    reader.entries(kind, count)?;
+    Ok(list)
+}
+
+/// Conditions, which may be left out.
+#[tactic(auto, unfolding(crate::specs::Parsers::conditions_at))]
+fn read_conditions<'a>(reader: &mut Reader<'a>) -> Result<Parts<'a>, FieldFault>
+    ensures { Reads conditions_at listed reader.old reader.new result }
+{
     if reader.is_at_end() {
-        return Some(Parts {
-            field,
+        return Ok(Parts {
+            field: reader.field,
             at: reader.place(),
             count: 0,
         });
     }
-    let Some(count) = reader.count(0, MOST_CONDITIONS) else {
-        return None;
-    };
-    let at = reader.place();
-    let Some(()) = reader.entries(Entry::Condition, count) else {
-        return None;
-    };
-    Some(Parts {
-        field,
-        at,
-        count: 3 * count as usize,
-    })
+    let count = reader.count(0, MOST_CONDITIONS)?;
+    read_list(reader, Entry::Condition, count)
 }
 
 /// An object, columns and conditions.
-fn read_selection<'a>(reader: &mut Reader<'a>) -> Option<Selection<'a>>
-    ensures read { MatchOption result (selection_at reader.old.field.now reader.old.at ≡ broken reader.new.at) (λ x. selection_at reader.old.field.now reader.old.at ≡ got (selected x) reader.new.at) }
-    ensures same { reader.new.field.now ≡ reader.old.field.now }
+#[tactic(auto, unfolding(crate::specs::Parsers::selection_at))]
+fn read_selection<'a>(reader: &mut Reader<'a>) -> Result<Selection<'a>, FieldFault>
+    ensures { Reads selection_at selected reader.old reader.new result }
 {
-    let field = reader.field;
-    let Some(source) = reader.identifier() else {
-        return None;
-    };
-    let Some(count) = reader.count(0, MOST_COLUMNS) else {
-        return None;
-    };
-    let at = reader.place();
-    let Some(()) = reader.entries(Entry::Name, count) else {
-        return None;
-    };
-    let columns = Parts {
-        field,
-        at,
-        count: count as usize,
-    };
-    let Some(conditions) = read_conditions(reader) else {
-        return None;
-    };
-    Some(Selection {
+    let source = reader.identifier()?;
+    let count = reader.count(0, MOST_COLUMNS)?;
+    let columns = read_list(reader, Entry::Name, count)?;
+    let conditions = read_conditions(reader)?;
+    Ok(Selection {
         source,
         columns,
         conditions,
@@ -76,94 +77,72 @@ fn read_selection<'a>(reader: &mut Reader<'a>) -> Option<Selection<'a>>
 }
 
 /// A table's limit, which may be left out.
-fn read_limit(reader: &mut Reader) -> Option<u8>
-    ensures read { MatchOption result (limit_at reader.old.field.now reader.old.at ≡ broken reader.new.at) (λ x. limit_at reader.old.field.now reader.old.at ≡ got (x) reader.new.at) }
-    ensures same { reader.new.field.now ≡ reader.old.field.now }
+#[tactic(auto, unfolding(crate::specs::Parsers::limit_at))]
+fn read_limit(reader: &mut Reader) -> Result<u8, FieldFault>
+    ensures { Reads limit_at (λ n. n) reader.old reader.new result }
 {
     if reader.is_at_end() {
-        return Some(USUAL_LIMIT);
+        return Ok(USUAL_LIMIT);
     }
-    let place = reader.place();
-    let Some(limit) = reader.byte() else {
-        return None;
-    };
+    let fault = reader.fault();
+    let limit = reader.byte()?;
     if limit == 0 {
-        reader.at = place;
-        return None;
+        return Err(fault);
     }
-    Some(limit)
+    Ok(limit)
 }
 
 /// The code of a right.
-fn take_right(reader: &mut Reader) -> Option<Right>
-    ensures read { MatchOption result (right_at reader.old.field.now reader.old.at ≡ broken reader.new.at) (λ x. right_at reader.old.field.now reader.old.at ≡ got (x) reader.new.at) }
-    ensures same { reader.new.field.now ≡ reader.old.field.now }
+#[tactic(auto, unfolding(crate::specs::Parsers::right_at))]
+fn read_right(reader: &mut Reader) -> Result<Right, FieldFault>
+    ensures { Reads right_at (λ r. r) reader.old reader.new result }
 {
-    let place = reader.place();
-    let Some(code) = reader.byte() else {
-        return None;
-    };
-    let Some(right) = read_right(code) else {
-        reader.at = place;
-        return None;
-    };
-    Some(right)
-}
-
-/// A grantee: an id, or an asterisk for all users.
-fn take_grantee<'a>(reader: &mut Reader<'a>) -> Option<Part<'a>>
-    ensures read { MatchOption result (grantee_at reader.old.field.now reader.old.at ≡ broken reader.new.at) (λ x. grantee_at reader.old.field.now reader.old.at ≡ got (parameter x) reader.new.at) }
-    ensures same { reader.new.field.now ≡ reader.old.field.now }
-{
-    let place = reader.place();
-    let Some(grantee) = reader.param() else {
-        return None;
-    };
-    if !is_identifier(grantee.bytes) && !is_asterisk(grantee.bytes) {
-        reader.at = place;
-        return None;
-    }
-    Some(grantee)
+    let fault = reader.fault();
+    let code = reader.byte()?;
+    Right::try_from(code).map_err(|_| fault)
 }
 
 fn is_asterisk(text: &[u8]) -> bool
     ensures { result ≡ (length text.now == 1 && slice_index text.now 0 == 42) }
 {
-    text.len() == 1 && text[0] == b'*'
+    matches!(text, b"*")
 }
 
-/// A name, and nothing else.
-fn read_only_name(field: &[u8]) -> Result<Part<'_>, FieldFault>
+/// A grantee: an id, or an asterisk for all users.
+#[tactic(auto, unfolding(crate::specs::Parsers::grantee_at))]
+fn read_grantee<'a>(reader: &mut Reader<'a>) -> Result<Part<'a>, FieldFault>
+    ensures { Reads grantee_at parameter reader.old reader.new result }
+{
+    let fault = reader.fault();
+    let grantee = reader.param()?;
+    if !is_identifier(grantee.bytes) && !is_asterisk(grantee.bytes) {
+        return Err(fault);
+    }
+    Ok(grantee)
+}
+
+/// DROP TABLE and DROP VIEW: a name.
+#[tactic(auto, unfolding(crate::specs::Parsers::only_name))]
+pub(crate) fn parse_only_name(field: &[u8]) -> Result<Part<'_>, FieldFault>
     ensures { MatchResult result (λ p. only_name field.now ≡ Ok (parameter p)) (λ f. only_name field.now ≡ Err f) }
 {
     let mut reader = Reader::new(field);
-    let Some(name) = reader.identifier() else {
-        return Err(reader.fault());
-    };
-    if !reader.is_at_end() {
-        return Err(reader.fault());
-    }
+    let name = reader.identifier()?;
+    reader.end()?;
     Ok(name)
 }
 
-/// What GRANT and REVOKE say.
-fn read_permission(field: &[u8]) -> Result<Permission<'_>, FieldFault>
+/// GRANT and REVOKE: a right, an object and a grantee.
+#[tactic(auto, unfolding(crate::specs::Parsers::permission_at))]
+pub(crate) fn parse_permission(field: &[u8]) -> Result<Permission<'_>, FieldFault>
     ensures { MatchResult result (λ p. permission_at field.now ≡ Ok (permitted p)) (λ f. permission_at field.now ≡ Err f) }
 {
     let mut reader = Reader::new(field);
     let place = reader.place();
-    let Some(right) = take_right(&mut reader) else {
-        return Err(reader.fault());
-    };
-    let Some(object) = reader.identifier() else {
-        return Err(reader.fault());
-    };
-    let Some(grantee) = take_grantee(&mut reader) else {
-        return Err(reader.fault());
-    };
-    if !reader.is_at_end() {
-        return Err(reader.fault());
-    }
+    let right = read_right(&mut reader)?;
+    let object = reader.identifier()?;
+    let grantee = read_grantee(&mut reader)?;
+    reader.end()?;
     Ok(Permission {
         place,
         right,
@@ -189,36 +168,12 @@ pub(crate) fn parse_create_user(field: &[u8]) -> Result<Command<'_>, FieldFault>
     ensures { told result ≡ create_user_of field.now }
 {
     let mut reader = Reader::new(field);
-    let Some(id) = reader.identifier() else {
-        return Err(reader.fault());
-    };
-    let place = reader.place();
-    let Some(text) = reader.param() else {
-        return Err(reader.fault());
-    };
-    let Some(profile) = read_profile(text.bytes) else {
-        return Err(FieldFault { place });
-    };
-    if !reader.is_at_end() {
-        return Err(reader.fault());
-    }
+    let id = reader.identifier()?;
+    let fault = reader.fault();
+    let text = reader.param()?;
+    let profile = Profile::try_from(text.bytes).map_err(|_| fault)?;
+    reader.end()?;
     Ok(Command::CreateUser { id, profile })
-}
-
-/// DROP TABLE: a name.
-pub(crate) fn parse_drop_table(field: &[u8]) -> Result<Command<'_>, FieldFault>
-    ensures { told result ≡ name_of field.now drop_table }
-{
-    let name = read_only_name(field)?;
-    Ok(Command::DropTable { name })
-}
-
-/// DROP VIEW: a name.
-pub(crate) fn parse_drop_view(field: &[u8]) -> Result<Command<'_>, FieldFault>
-    ensures { told result ≡ name_of field.now drop_view }
-{
-    let name = read_only_name(field)?;
-    Ok(Command::DropView { name })
 }
 
 /// DECLARE CURSOR: a selection.
@@ -226,12 +181,8 @@ pub(crate) fn parse_declare_cursor(field: &[u8]) -> Result<Command<'_>, FieldFau
     ensures { told result ≡ declare_cursor_of field.now }
 {
     let mut reader = Reader::new(field);
-    let Some(selection) = read_selection(&mut reader) else {
-        return Err(reader.fault());
-    };
-    if !reader.is_at_end() {
-        return Err(reader.fault());
-    }
+    let selection = read_selection(&mut reader)?;
+    reader.end()?;
     Ok(Command::DeclareCursor { selection })
 }
 
@@ -240,16 +191,10 @@ pub(crate) fn parse_create_view(field: &[u8]) -> Result<Command<'_>, FieldFault>
     ensures { told result ≡ create_view_of field.now }
 {
     let mut reader = Reader::new(field);
-    let Some(name) = reader.identifier() else {
-        return Err(reader.fault());
-    };
+    let name = reader.identifier()?;
     let definition = reader.rest().bytes;
-    let Some(selection) = read_selection(&mut reader) else {
-        return Err(reader.fault());
-    };
-    if !reader.is_at_end() {
-        return Err(reader.fault());
-    }
+    let selection = read_selection(&mut reader)?;
+    reader.end()?;
     Ok(Command::CreateView {
         name,
         definition,
@@ -262,29 +207,13 @@ pub(crate) fn parse_create_table(field: &[u8]) -> Result<Command<'_>, FieldFault
     ensures { told result ≡ create_table_of field.now }
 {
     let mut reader = Reader::new(field);
-    let Some(name) = reader.identifier() else {
-        return Err(reader.fault());
-    };
+    let name = reader.identifier()?;
     let start = reader.place();
-    let Some(count) = reader.count(1, MOST_COLUMNS) else {
-        return Err(reader.fault());
-    };
-    let at = reader.place();
-    let Some(()) = reader.entries(Entry::Definition, count) else {
-        return Err(reader.fault());
-    };
+    let count = reader.count(1, MOST_COLUMNS)?;
+    let columns = read_list(&mut reader, Entry::Definition, count)?;
     let definition = reader.since(start);
-    let Some(limit) = read_limit(&mut reader) else {
-        return Err(reader.fault());
-    };
-    if !reader.is_at_end() {
-        return Err(reader.fault());
-    }
-    let columns = Parts {
-        field,
-        at,
-        count: count as usize,
-    };
+    let limit = read_limit(&mut reader)?;
+    reader.end()?;
     Ok(Command::CreateTable {
         name,
         definition,
@@ -293,47 +222,17 @@ pub(crate) fn parse_create_table(field: &[u8]) -> Result<Command<'_>, FieldFault
     })
 }
 
-/// GRANT: a right, an object and a grantee.
-pub(crate) fn parse_grant(field: &[u8]) -> Result<Command<'_>, FieldFault>
-    ensures { told result ≡ permission_of field.now grant }
-{
-    let permission = read_permission(field)?;
-    Ok(Command::Grant { permission })
-}
-
-/// REVOKE: a right, an object and a grantee.
-pub(crate) fn parse_revoke(field: &[u8]) -> Result<Command<'_>, FieldFault>
-    ensures { told result ≡ permission_of field.now revoke }
-{
-    let permission = read_permission(field)?;
-    Ok(Command::Revoke { permission })
-}
-
 /// INSERT: a table, a count and strings.
 pub(crate) fn parse_insert(field: &[u8]) -> Result<Command<'_>, FieldFault>
     ensures { told result ≡ insert_of field.now }
 {
     let mut reader = Reader::new(field);
-    let Some(table) = reader.identifier() else {
-        return Err(reader.fault());
-    };
+    let table = reader.identifier()?;
     let place = reader.place();
     let row = reader.rest().bytes;
-    let Some(count) = reader.count(0, u8::MAX) else {
-        return Err(reader.fault());
-    };
-    let at = reader.place();
-    let Some(()) = reader.entries(Entry::Text, count) else {
-        return Err(reader.fault());
-    };
-    if !reader.is_at_end() {
-        return Err(reader.fault());
-    }
-    let strings = Parts {
-        field,
-        at,
-        count: count as usize,
-    };
+    let count = reader.count(0, u8::MAX)?;
+    let strings = read_list(&mut reader, Entry::Text, count)?;
+    reader.end()?;
     Ok(Command::Insert {
         table,
         count: place,
@@ -347,20 +246,8 @@ pub(crate) fn parse_update(field: &[u8]) -> Result<Command<'_>, FieldFault>
     ensures { told result ≡ update_of field.now }
 {
     let mut reader = Reader::new(field);
-    let Some(count) = reader.count(1, MOST_COLUMNS) else {
-        return Err(reader.fault());
-    };
-    let at = reader.place();
-    let Some(()) = reader.entries(Entry::Assignment, count) else {
-        return Err(reader.fault());
-    };
-    if !reader.is_at_end() {
-        return Err(reader.fault());
-    }
-    let assignments = Parts {
-        field,
-        at,
-        count: 2 * count as usize,
-    };
+    let count = reader.count(1, MOST_COLUMNS)?;
+    let assignments = read_list(&mut reader, Entry::Assignment, count)?;
+    reader.end()?;
     Ok(Command::Update { assignments })
 }

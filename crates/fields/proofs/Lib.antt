@@ -1,4 +1,3 @@
 pub mod Dots
-pub mod Columns
 pub mod Fronts
 pub mod Listing

@@ -1,3 +1,5 @@
 pub mod Column
 pub mod Entries
 pub mod Reader
+pub mod Reads
+pub mod Names

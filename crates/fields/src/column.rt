@@ -8,7 +8,7 @@ use text::is_identifier;
 pub const USUAL_LENGTH: u8 = 24;
 
 /// A column of a table, as its definition says it.
-#[derive(Clone, Copy)]
+#[derive(Clone, Copy, PartialEq, Eq, Debug)]
 pub struct Column<'a> {
     pub name: &'a [u8],
     pub unique: bool,
@@ -16,7 +16,7 @@ pub struct Column<'a> {
 }
 
 /// What stands behind a column's name.
-#[derive(Clone, Copy)]
+#[derive(Clone, Copy, PartialEq, Eq, Debug)]
 pub struct Marks {
     unique: bool,
     longest: u8,
@@ -27,12 +27,7 @@ fn find_dot(bytes: &[u8]) -> usize
     ensures within { result ≤ length bytes.now }
     ensures first { result ≡ dot bytes.now }
 {
-    for (i, c) in bytes.iter().enumerate() {
-        if *c == b'.' {
-            return i;
-        }
-    }
-    bytes.len()
+    bytes.iter().position(|c| *c == b'.').unwrap_or(bytes.len())
 }
 
 /// `.U` for a unique column, then `.V` and a byte for its longest length; both may be left out.
@@ -69,9 +64,7 @@ pub fn read_column(bytes: &[u8]) -> Option<Column<'_>>
     if !is_identifier(name) || name == b"USER".as_slice() {
         return None;
     }
-    let Some(marks) = read_marks(&bytes[end..bytes.len()]) else {
-        return None;
-    };
+    let marks = read_marks(&bytes[end..])?;
     Some(Column {
         name,
         unique: marks.unique,

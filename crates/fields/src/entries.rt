@@ -1,13 +1,15 @@
-ghost use Rattle.std.specs.Prelude.{◌≡◌, ◌&&◌, MatchOption};
-ghost use Rattle.fields.specs.Reader.{got, broken};
-ghost use Rattle.fields.specs.Entries.{name_at, rest_at, differ, names, among, entries_at};
+ghost use Rattle.std.specs.Prelude.{◌≡◌, [], ◌∷◌, MatchOption};
+ghost use Rattle.std.specs.Iterator.{at_most};
+ghost use Rattle.fields.specs.Reads.{Reads};
+ghost use Rattle.fields.specs.Entries.{name_at, rest_at, differ, among, entries_at};
+ghost use Rattle.fields.specs.Names.{named, entry_at};
 ghost use Rattle.fields.specs.declared.entries.Entry.TheVariants.{Definition};
 
 use crate::column::read_column;
-use crate::reader::Reader;
+use crate::reader::{FieldFault, Reader};
 
 /// The kinds of entries that a list in a field has.
-#[derive(Clone, Copy)]
+#[derive(Clone, Copy, PartialEq, Eq, Debug)]
 pub enum Entry {
     /// A column, by its name.
     Name,
@@ -35,40 +37,35 @@ impl Entry {
 
 impl<'a> Reader<'a> {
     /// The name of a column of a new table.
-    fn defined_name(&mut self) -> Option<&'a [u8]>
-        ensures read { MatchOption result (name_at Definition self.old.field.now self.old.at ≡ broken self.new.at) (λ n. name_at Definition self.old.field.now self.old.at ≡ got n.now self.new.at) }
-        ensures same { self.new.field.now ≡ self.old.field.now }
+    #[tactic(auto, unfolding(crate::specs::Entries::name_at))]
+    fn defined_name(&mut self) -> Result<&'a [u8], FieldFault>
+        ensures { Reads (name_at Definition) (λ n. n.now) self.old self.new result }
     {
-        let place = self.at;
+        let fault = self.fault();
         let part = self.param()?;
-        let Some(column) = read_column(part.bytes) else {
-            self.at = place;
-            return None;
-        };
-        Some(column.name)
+        let column = read_column(part.bytes).ok_or(fault)?;
+        Ok(column.name)
     }
 
     /// The name of the column that an entry speaks of.
-    fn entry_name(&mut self, kind: Entry) -> Option<&'a [u8]>
-        ensures read { MatchOption result (name_at kind self.old.field.now self.old.at ≡ broken self.new.at) (λ n. name_at kind self.old.field.now self.old.at ≡ got n.now self.new.at) }
-        ensures same { self.new.field.now ≡ self.old.field.now }
+    #[tactic(auto, unfolding(crate::specs::Entries::name_at))]
+    fn entry_name(&mut self, kind: Entry) -> Result<&'a [u8], FieldFault>
+        ensures { Reads (name_at kind) (λ n. n.now) self.old self.new result }
     {
         match kind {
             Entry::Name | Entry::Assignment | Entry::Condition => {
                 let column = self.identifier()?;
-                Some(column.bytes)
+                Ok(column.bytes)
             }
             Entry::Definition => self.defined_name(),
-            Entry::Text => Some(&[]),
+            Entry::Text => Ok(&[]),
         }
     }
-}
 
-impl Reader<'_> {
     /// What an entry has behind the name: nothing, a string, or an operator and a string.
-    fn entry_rest(&mut self, kind: Entry) -> Option<()>
-        ensures read { MatchOption result (rest_at kind self.old.field.now self.old.at ≡ broken self.new.at) (λ _. rest_at kind self.old.field.now self.old.at ≡ got 0 self.new.at) }
-        ensures same { self.new.field.now ≡ self.old.field.now }
+    #[tactic(auto, unfolding(crate::specs::Entries::rest_at))]
+    fn entry_rest(&mut self, kind: Entry) -> Result<(), FieldFault>
+        ensures { Reads (rest_at kind) (λ _. 0) self.old self.new result }
     {
         match kind {
             Entry::Name | Entry::Definition => {}
@@ -80,56 +77,83 @@ impl Reader<'_> {
                 self.param()?;
             }
         }
-        Some(())
+        Ok(())
     }
 }
 
-/// Whether one of the entries that stand from a position on speaks of a column.
-fn has_name(field: &[u8], kind: Entry, from: usize, count: u8, name: &[u8]) -> bool
-    ensures { result ≡ among name.now (names kind field.now from count) }
-{
-    let mut reader = Reader { field, at: from };
-    for _i in 0..count {
-        let Some(earlier) = reader.entry_name(kind) else {
-            return false;
-        };
-        if earlier == name {
-            return true;
+/// The names that entries of a kind speak of, as far as the entries can be read.
+#[derive(Clone, Copy)]
+struct Names<'a> {
+    field: &'a [u8],
+    kind: Entry,
+    at: usize,
+    count: u8,
+}
+
+impl<'a> Iterator for Names<'a> {
+    type Item = &'a [u8];
+
+    ghost next_gives = { λ s r t. MatchOption r (named s ≡ []) (λ n. named s ≡ n.now ∷ named t) };
+
+    ghost remaining = { λ s. at_most s.count };
+
+    fn next(&mut self) -> Option<&'a [u8]> {
+        if self.count == 0 {
+            return None;
         }
-        let Some(()) = reader.entry_rest(kind) else {
-            return false;
+        let mut reader = Reader {
+            field: self.field,
+            at: self.at,
         };
+        let Ok(name) = reader.entry_name(self.kind) else {
+            return None;
+        };
+        self.count = match reader.entry_rest(self.kind) {
+            Ok(()) => self.count - 1,
+            Err(_) => 0,
+        };
+        self.at = reader.at;
+        Some(name)
     }
-    false
 }
 
-/// Whether an entry names a column that an earlier one named, and should not.
-fn comes_again(field: &[u8], kind: Entry, from: usize, count: u8, name: &[u8]) -> bool
-    ensures { result ≡ (differ kind && among name.now (names kind field.now from count)) }
-{
-    kind.columns_differ() && has_name(field, kind, from, count, name)
+impl Names<'_> {
+    /// Whether a name is among them.
+    fn have(mut self, name: &[u8]) -> bool
+        ensures { result ≡ among name.now (named self.entry) }
+    {
+        self.any(|earlier| earlier == name)
+    }
 }
 
 impl Reader<'_> {
+    /// An entry of a kind that has others before it; a column that may not come again is at fault.
+    #[tactic(auto, unfolding(crate::specs::Names::entry_at))]
+    fn entry(&mut self, kind: Entry, earlier: Names<'_>) -> Result<(), FieldFault>
+        ensures { Reads (entry_at kind (named earlier.entry)) (λ _. 0) self.old self.new result }
+    {
+        let fault = self.fault();
+        let name = self.entry_name(kind)?;
+        if kind.columns_differ() && earlier.have(name) {
+            return Err(fault);
+        }
+        self.entry_rest(kind)
+    }
+
     /// So many entries of a kind.
-    pub fn entries(&mut self, kind: Entry, count: u8) -> Option<()>
-        ensures read { MatchOption result (entries_at kind self.old.field.now self.old.at 0 self.old.at count ≡ broken self.new.at) (λ _. entries_at kind self.old.field.now self.old.at 0 self.old.at count ≡ got count self.new.at) }
-        ensures same { self.new.field.now ≡ self.old.field.now }
+    pub fn entries(&mut self, kind: Entry, count: u8) -> Result<(), FieldFault>
+        ensures { Reads (λ bs from. entries_at kind bs from 0 from count) (λ _. count) self.old self.new result }
     {
         let from = self.at;
         for i in 0..count {
-            let place = self.at;
-            let Some(name) = self.entry_name(kind) else {
-                return None;
+            let earlier = Names {
+                field: self.field,
+                kind,
+                at: from,
+                count: i,
             };
-            if comes_again(self.field, kind, from, i, name) {
-                self.at = place;
-                return None;
-            }
-            let Some(()) = self.entry_rest(kind) else {
-                return None;
-            };
+            self.entry(kind, earlier)?;
         }
-        Some(())
+        Ok(())
     }
 }

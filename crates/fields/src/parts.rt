@@ -20,9 +20,7 @@ impl<'a> Iterator for Parts<'a> {
             field: self.field,
             at: self.at,
         };
-        let Some(part) = reader.param() else {
-            return None;
-        };
+        let part = reader.param().ok()?;
         self.at = reader.at;
         self.count -= 1;
         Some(part)

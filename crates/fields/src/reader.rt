@@ -1,23 +1,24 @@
-ghost use Rattle.std.specs.Prelude.{◌≡◌, ◌-◌, not, length, take, drop, MatchOption, nat_lt};
-ghost use Rattle.fields.specs.Reader.{parameter, got, broken, param_at, count_at, identifier_at, byte_at, operator_at};
+ghost use Rattle.std.specs.Prelude.{◌≡◌, ◌-◌, length, take, drop, nat_lt, not};
+ghost use Rattle.fields.specs.Reader.{parameter, param_at, count_at, identifier_at, byte_at, operator_at};
+ghost use Rattle.fields.specs.Reads.{Reads, end_at};
 
 use text::{Operator, is_identifier};
 
 /// A field breaks its form at this offset of the command.
-#[derive(Clone, Copy)]
+#[derive(Clone, Copy, PartialEq, Eq, Debug)]
 pub struct FieldFault {
     pub place: usize,
 }
 
 /// A parameter: a part of the command, and the offset of its length byte.
-#[derive(Clone, Copy)]
+#[derive(Clone, Copy, PartialEq, Eq, Debug)]
 pub struct Part<'a> {
     pub place: usize,
     pub bytes: &'a [u8],
 }
 
 /// Parameters that stand one behind the other in a field, from a position on.
-#[derive(Clone, Copy)]
+#[derive(Clone, Copy, PartialEq, Eq, Debug)]
 pub struct Parts<'a> {
     pub field: &'a [u8],
     pub at: usize,
@@ -28,7 +29,7 @@ pub struct Parts<'a> {
 pub const DATA: usize = 5;
 
 /// Reads a field, a command up to the end of its data, from left to right. Its position is the offset of what it
-/// reads next, or, after a fault, of what is at fault.
+/// reads next. What breaks the field's form is told with its place.
 #[derive(Drop)]
 pub struct Reader<'a> {
     pub field: &'a [u8],
@@ -58,88 +59,80 @@ impl<'a> Reader<'a> {
     }
 
     /// A length byte and as many bytes.
-    pub fn param(&mut self) -> Option<Part<'a>>
-        ensures read { MatchOption result (param_at self.old.field.now self.old.at ≡ broken self.new.at) (λ p. param_at self.old.field.now self.old.at ≡ got (parameter p) self.new.at) }
-        ensures same { self.new.field.now ≡ self.old.field.now }
+    #[tactic(auto, unfolding(crate::specs::Reader::param_at))]
+    pub fn param(&mut self) -> Result<Part<'a>, FieldFault>
+        ensures { Reads param_at parameter self.old self.new result }
     {
         let place = self.at;
         let field = self.field;
-        self.at = field.len();
-        if place >= field.len() {
-            return None;
-        }
+        let missing = FieldFault { place: field.len() };
+        let Some(len) = field.get(place) else {
+            return Err(missing);
+        };
+        let len = *len as usize;
         let from = place + 1;
-        let len = field[place] as usize;
         if field.len() - from < len {
-            return None;
+            return Err(missing);
         }
         let end = from + len;
         self.at = end;
-        Some(Part {
+        Ok(Part {
             place,
             bytes: &field[from..end],
         })
     }
 
     /// A count byte from `least` to `most`.
-    pub fn count(&mut self, least: u8, most: u8) -> Option<u8>
-        ensures read { MatchOption result (count_at self.old.field.now least most self.old.at ≡ broken self.new.at) (λ n. count_at self.old.field.now least most self.old.at ≡ got n self.new.at) }
-        ensures same { self.new.field.now ≡ self.old.field.now }
+    #[tactic(auto, unfolding(crate::specs::Reader::count_at))]
+    pub fn count(&mut self, least: u8, most: u8) -> Result<u8, FieldFault>
+        ensures { Reads (λ bs. count_at bs least most) (λ n. n) self.old self.new result }
     {
-        let at = self.at;
         let field = self.field;
-        if at >= field.len() {
-            self.at = field.len();
-            return None;
-        }
-        let count = field[at];
+        let Some(count) = field.get(self.at) else {
+            return Err(FieldFault { place: field.len() });
+        };
+        let count = *count;
         if count < least || count > most {
-            return None;
+            return Err(self.fault());
         }
-        self.at = at + 1;
-        Some(count)
+        self.at += 1;
+        Ok(count)
     }
 
     /// An identifier.
-    pub fn identifier(&mut self) -> Option<Part<'a>>
-        ensures read { MatchOption result (identifier_at self.old.field.now self.old.at ≡ broken self.new.at) (λ p. identifier_at self.old.field.now self.old.at ≡ got (parameter p) self.new.at) }
-        ensures same { self.new.field.now ≡ self.old.field.now }
+    #[tactic(auto, unfolding(crate::specs::Reader::identifier_at))]
+    pub fn identifier(&mut self) -> Result<Part<'a>, FieldFault>
+        ensures { Reads identifier_at parameter self.old self.new result }
     {
-        let place = self.at;
+        let fault = self.fault();
         let part = self.param()?;
         if !is_identifier(part.bytes) {
-            self.at = place;
-            return None;
+            return Err(fault);
         }
-        Some(part)
+        Ok(part)
     }
 
     /// A parameter of one byte.
-    pub fn byte(&mut self) -> Option<u8>
-        ensures read { MatchOption result (byte_at self.old.field.now self.old.at ≡ broken self.new.at) (λ n. byte_at self.old.field.now self.old.at ≡ got n self.new.at) }
-        ensures same { self.new.field.now ≡ self.old.field.now }
+    #[tactic(auto, unfolding(crate::specs::Reader::byte_at))]
+    pub fn byte(&mut self) -> Result<u8, FieldFault>
+        ensures { Reads byte_at (λ n. n) self.old self.new result }
     {
-        let place = self.at;
+        let fault = self.fault();
         let part = self.param()?;
         if part.bytes.len() != 1 {
-            self.at = place;
-            return None;
+            return Err(fault);
         }
-        Some(part.bytes[0])
+        Ok(part.bytes[0])
     }
 
     /// The code of an operator.
-    pub fn operator(&mut self) -> Option<Operator>
-        ensures read { MatchOption result (operator_at self.old.field.now self.old.at ≡ broken self.new.at) (λ o. operator_at self.old.field.now self.old.at ≡ got o self.new.at) }
-        ensures same { self.new.field.now ≡ self.old.field.now }
+    #[tactic(auto, unfolding(crate::specs::Reader::operator_at))]
+    pub fn operator(&mut self) -> Result<Operator, FieldFault>
+        ensures { Reads operator_at (λ o. o) self.old self.new result }
     {
-        let place = self.at;
+        let fault = self.fault();
         let code = self.byte()?;
-        let Some(operator) = Operator::of(code) else {
-            self.at = place;
-            return None;
-        };
-        Some(operator)
+        Operator::of(code).ok_or(fault)
     }
 
     /// Whether nothing is left over.
@@ -147,6 +140,16 @@ impl<'a> Reader<'a> {
         ensures { result ≡ not (nat_lt self.now.at (length self.now.field.now)) }
     {
         self.at >= self.field.len()
+    }
+
+    /// Refuses where something is left over.
+    pub fn end(&self) -> Result<(), FieldFault>
+        ensures { Reads end_at (λ _. 0) self.now self.now result }
+    {
+        if !self.is_at_end() {
+            return Err(self.fault());
+        }
+        Ok(())
     }
 
     /// All that is left, as one parameter without a length byte.

@@ -1,7 +1,7 @@
 //! Refusals in words.
 use crate::words::Marked;
 use apdu::EnvelopeFault;
-use commands::{CommandFault, status_of};
+use commands::{CommandFault, Status};
 use std::fmt;
 
 /// A command that was not understood, and why.
@@ -38,7 +38,7 @@ fn marked_place(fault: CommandFault) -> Option<usize> {
 
 impl fmt::Display for Refusal<'_> {
     fn fmt<W: fmt::Write>(&self, f: &mut fmt::Formatter<W>) -> fmt::Result {
-        let status = status_of(self.fault);
+        let status = Status::from(self.fault);
         let word = status.word;
         let cause = status.cause;
         let layer = status.layer;

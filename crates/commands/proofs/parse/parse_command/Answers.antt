@@ -5,15 +5,15 @@ use Rattle.commands.specs.Parse.{understood}
 use Rattle.commands.proofs.Fronts.{parsed_inside, fault_inside}
 use Rattle.commands.proofs.parse.parse_command.Goals as goal
 
-pub returns-in_err-command : goal.returns-in_err-command
-returns-in_err-command c =
+pub returns-in_err-parse_field : goal.returns-in_err-parse_field
+returns-in_err-parse_field c =
     let e = c.in_ok-envelope.envelope in
-    let f = c.in_err-command.field-0.0 in
-    let is : c.from_residual-in_err-command.result ≡ Err (Field f) = search rules in
+    let f = c.in_err-parse_field.field-0.0 in
+    let is : c.from_residual-in_err-parse_field.result ≡ Err (Field f) = search rules in
     record {
       result = search rules;
       inside = subst (λ r. Inside c.args.command.now (understood r)) (sym is)
-          (fault_inside c.args.command.now e.operation e.field.now e.le c.in_ok-envelope.ensures.within f c.in_err-command.ensures);
+          (fault_inside c.args.command.now e.operation e.field.now e.le c.in_ok-envelope.ensures.within f c.in_err-parse_field.ensures);
     }
 
 pub returns : goal.returns
@@ -21,5 +21,5 @@ returns c =
     let e = c.in_ok-envelope.envelope in
     record {
       result = search rules;
-      inside = parsed_inside c.args.command.now e.operation e.field.now e.le c.in_ok-envelope.ensures.within _ c.in_ok-command.ensures;
+      inside = parsed_inside c.args.command.now e.operation e.field.now e.le c.in_ok-envelope.ensures.within _ c.in_ok-parse_field.ensures;
     }

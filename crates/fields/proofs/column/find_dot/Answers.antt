@@ -1,18 +1,12 @@
-use Rattle.std.proofs.Common.{arith}
-use Rattle.fields.proofs.Dots.{dot_here, dot_on, dot_end}
+use Rattle.std.proofs.Common.{length, eqb, ap, ◌∙◌, rules, tests}
+use Rattle.std.specs.Option.{unwrap_or}
+use Rattle.std.proofs.lemmas.Iterator.{YieldsList-from_slice}
+use Rattle.std.proofs.lemmas.Iterator.Search.{position_from_yields_List}
+use Rattle.fields.proofs.Dots.{dot_found}
 use Rattle.fields.proofs.column.find_dot.Goals as goal
 
-pub returns-then-c-eq46 : goal.returns-then-c-eq46
-returns-then-c-eq46 c = record {
-  within = omega arith;
-  first = omega (arith, c.loop-i.invariant, dot_here c.args.bytes.now c.loop-i.i c.loop-i-test.true c.if-c-eq46.true);
-}
-
-pub loop-i-preserved : goal.loop-i-preserved
-loop-i-preserved c = omega (arith, c.loop-i.invariant, dot_on c.args.bytes.now c.loop-i.i c.loop-i-test.true c.if-c-eq46.false)
-
-pub returns : goal.returns
-returns c = record {
-  within = omega arith;
-  first = omega (arith, c.loop-i.invariant, dot_end c.args.bytes.now c.loop-i.i c.loop-i-test.false);
-}
+pub returns-clause-first : goal.returns-clause-first
+returns-clause-first c =
+    let bs = c.args.bytes.now in
+    let at = position_from_yields_List (λ b. eqb b 46) _ _ _ c.position.ensures.ran (YieldsList-from_slice bs cc) (λ x b q k. search (rules, tests)) in
+    c.unwrap_or.ensures ∙ ap (λ o. unwrap_or o (length bs)) at ∙ dot_found bs
