@@ -1,7 +1,11 @@
 //! Commands in words.
+ghost use Rattle.std.specs.Iterator.{IsFinite, UpTo};
+ghost use Rattle.std.specs.Prelude.{◌-◌, ◌^◌};
+
 use crate::words::{Quoted, Shown};
-use commands::{Command, Permission, Profile, Right, Selection};
+use commands::{Command, Permission, Selection};
 use fields::{Part, Parts, read_column};
+use itertools::Itertools;
 use std::fmt;
 use text::Operator;
 
@@ -17,10 +21,7 @@ impl fmt::Display for Explained<'_> {
             Command::PresentUser { id } => tell(f, "PRESENT USER ", id),
             Command::CreateUser { id, profile } => {
                 tell(f, "CREATE USER ", id)?;
-                f.write_str(match profile {
-                    Profile::ObjectOwner => " as DBOO",
-                    Profile::BasicUser => " as DBBU",
-                })
+                write!(f, " as {profile}")
             }
             Command::CreateTable {
                 name,
@@ -70,9 +71,26 @@ fn tell<W: fmt::Write>(f: &mut fmt::Formatter<W>, words: &str, name: Part) -> fm
     write!(f, "{words}{name}")
 }
 
-/// What stands before an item of a list.
-fn before(first: bool, opening: &'static str, between: &'static str) -> &'static str {
-    if first { opening } else { between }
+/// Writes the items of a list, with `opening` before the first and `between` before each other.
+fn tell_list<T: Drop, I: Iterator<Item = T> + Drop, W: fmt::Write, F>(
+    f: &mut fmt::Formatter<W>,
+    opening: &str,
+    between: &str,
+    items: I,
+    tell_item: F,
+) -> fmt::Result
+where
+    F: Fn(&mut fmt::Formatter<W>, T) -> fmt::Result,
+    requires can { I.can_next items }
+    requires ends { IsFinite (I.remaining items) }
+    requires few { UpTo (I.remaining items) (2 ^ 64 - 1) }
+    requires tells { F.IsAlwaysCallable tell_item }
+{
+    for (i, item) in items.enumerate() {
+        f.write_str(if i == 0 { opening } else { between })?;
+        tell_item(f, item)?;
+    }
+    Ok(())
 }
 
 fn tell_column<W: fmt::Write>(f: &mut fmt::Formatter<W>, part: Part) -> fmt::Result {
@@ -89,13 +107,7 @@ fn tell_column<W: fmt::Write>(f: &mut fmt::Formatter<W>, part: Part) -> fmt::Res
 }
 
 fn tell_columns<W: fmt::Write>(f: &mut fmt::Formatter<W>, columns: Parts) -> fmt::Result {
-    let mut first = true;
-    for part in columns {
-        f.write_str(before(first, "", ", "))?;
-        tell_column(f, part)?;
-        first = false;
-    }
-    Ok(())
+    tell_list(f, "", ", ", columns, |f, part| tell_column(f, part))
 }
 
 fn tell_selection<W: fmt::Write>(f: &mut fmt::Formatter<W>, selection: Selection) -> fmt::Result {
@@ -113,12 +125,7 @@ fn tell_names<W: fmt::Write>(f: &mut fmt::Formatter<W>, columns: Parts) -> fmt::
     if columns.count == 0 {
         return f.write_str(": all columns");
     }
-    let mut first = true;
-    for column in columns {
-        tell(f, before(first, ": ", ", "), column)?;
-        first = false;
-    }
-    Ok(())
+    tell_list(f, ": ", ", ", columns, |f, column| tell(f, "", column))
 }
 
 fn operator_sign(code: &[u8]) -> &'static str {
@@ -137,22 +144,20 @@ fn operator_sign(code: &[u8]) -> &'static str {
 }
 
 fn tell_conditions<W: fmt::Write>(f: &mut fmt::Formatter<W>, conditions: Parts) -> fmt::Result {
-    let mut parts = conditions;
-    let mut first = true;
-    for _ in 0..conditions.count / 3 {
-        let (Some(column), Some(code), Some(string)) = (parts.next(), parts.next(), parts.next())
-        else {
-            break;
-        };
-        tell(f, before(first, " where ", " and "), column)?;
-        let sign = operator_sign(code.bytes);
-        let string = Quoted {
-            bytes: string.bytes,
-        };
-        write!(f, " {sign} {string}")?;
-        first = false;
-    }
-    Ok(())
+    tell_list(
+        f,
+        " where ",
+        " and ",
+        conditions.tuples(),
+        |f, (column, code, string)| {
+            tell(f, "", column)?;
+            let sign = operator_sign(code.bytes);
+            let string = Quoted {
+                bytes: string.bytes,
+            };
+            write!(f, " {sign} {string}")
+        },
+    )
 }
 
 fn tell_permission<W: fmt::Write>(
@@ -161,13 +166,7 @@ fn tell_permission<W: fmt::Write>(
     permission: Permission,
     whom: &str,
 ) -> fmt::Result {
-    let right = match permission.right {
-        Right::Insert => "INSERT",
-        Right::Select => "SELECT",
-        Right::Update => "UPDATE",
-        Right::Delete => "DELETE",
-        Right::All => "ALL",
-    };
+    let right = permission.right;
     write!(f, "{words}{right}")?;
     tell(f, " on ", permission.object)?;
     match permission.grantee.bytes {
@@ -180,29 +179,18 @@ fn tell_strings<W: fmt::Write>(f: &mut fmt::Formatter<W>, strings: Parts) -> fmt
     let count = strings.count;
     let noun = if count == 1 { "string" } else { "strings" };
     write!(f, ": {count} {noun}")?;
-    let mut first = true;
-    for part in strings {
+    tell_list(f, ": ", ", ", strings, |f, part| {
         let string = Quoted { bytes: part.bytes };
-        let between = before(first, ": ", ", ");
-        write!(f, "{between}{string}")?;
-        first = false;
-    }
-    Ok(())
+        write!(f, "{string}")
+    })
 }
 
 fn tell_assignments<W: fmt::Write>(f: &mut fmt::Formatter<W>, assignments: Parts) -> fmt::Result {
-    let mut parts = assignments;
-    let mut first = true;
-    for _ in 0..assignments.count / 2 {
-        let (Some(column), Some(string)) = (parts.next(), parts.next()) else {
-            break;
-        };
-        tell(f, before(first, "", ", "), column)?;
+    tell_list(f, "", ", ", assignments.tuples(), |f, (column, string)| {
+        tell(f, "", column)?;
         let string = Quoted {
             bytes: string.bytes,
         };
-        write!(f, " to {string}")?;
-        first = false;
-    }
-    Ok(())
+        write!(f, " to {string}")
+    })
 }

@@ -21,7 +21,7 @@ impl fmt::Display for Shown<'_> {
 }
 
 fn is_printing(byte: u8) -> bool {
-    byte >= b' ' && byte <= b'~'
+    matches!(byte, b' '..=b'~')
 }
 
 /// A string: text between double quotes, or hexadecimal digits between single ones.
@@ -33,12 +33,9 @@ pub struct Quoted<'a> {
 impl Quoted<'_> {
     /// Whether the string can stand between double quotes.
     fn is_text(&self) -> bool {
-        for byte in self.bytes {
-            if !is_printing(*byte) || *byte == b'"' {
-                return false;
-            }
-        }
-        true
+        self.bytes
+            .iter()
+            .all(|byte| is_printing(*byte) && *byte != b'"')
     }
 }
 
