@@ -135,7 +135,7 @@ impl<'a> Reader<'a> {
     {
         let place = self.at;
         let code = self.byte()?;
-        let Some(operator) = Operator::of(code) else {
+        let Ok(operator) = Operator::try_from(code) else {
             self.at = place;
             return None;
         };

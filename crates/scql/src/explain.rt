@@ -123,14 +123,14 @@ fn tell_names<W: fmt::Write>(f: &mut fmt::Formatter<W>, columns: Parts) -> fmt::
 
 fn operator_sign(code: &[u8]) -> &'static str {
     match code {
-        [code] => match Operator::of(*code) {
-            Some(Operator::Equal) => "=",
-            Some(Operator::Less) => "<",
-            Some(Operator::Greater) => ">",
-            Some(Operator::AtMost) => "<=",
-            Some(Operator::AtLeast) => ">=",
-            Some(Operator::Unequal) => "<>",
-            None => "?",
+        [code] => match Operator::try_from(*code) {
+            Ok(Operator::Equal) => "=",
+            Ok(Operator::Less) => "<",
+            Ok(Operator::Greater) => ">",
+            Ok(Operator::AtMost) => "<=",
+            Ok(Operator::AtLeast) => ">=",
+            Ok(Operator::Unequal) => "<>",
+            Err(_) => "?",
         },
         _ => "?",
     }
