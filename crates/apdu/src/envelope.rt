@@ -1,104 +1,110 @@
-ghost use Rattle.std.specs.Prelude.{◌≡◌, ◌+◌, ◌<◌, IfSome, IfOk, if◌then◌else◌, nat_eq};
+ghost use Rattle.std.specs.Prelude.{◌≡◌, ◌+◌, IfSome, IfOk, if◌then◌else◌, nat_eq};
 ghost use Rattle.apdu.specs.Envelope.{body_of, expected, fits, opened, envelope, Within, Fitting};
 
-use crate::operation::{Operation, operation_of};
+use crate::operation::Operation;
+use thiserror::Error;
 
 /// Why bytes are no command that a card takes.
-#[derive(Clone, Copy, PartialEq, Eq, Debug)]
+#[derive(Clone, Copy, PartialEq, Eq, Debug, Error)]
 pub enum EnvelopeFault {
     /// The answer area has under 255 bytes.
+    #[error("the answer area is under 255 bytes")]
     Area,
     /// The bytes have not the form of a command.
+    #[error("not a command")]
     NoApdu,
     /// CLA is not '00'.
+    #[error("CLA is not 00")]
     Class,
     /// INS is neither '10' nor '14'.
+    #[error("INS is unknown")]
     Instruction,
     /// P1 is not '00'.
+    #[error("P1 is not 00")]
     P1,
     /// P2 names no operation of that INS.
+    #[error("P2 is unknown")]
     P2,
     /// Data or Le is missing or unwanted.
+    #[error("data or Le is missing or unwanted")]
     Shape,
 }
 
 /// The least length of an answer area.
 pub const LEAST_AREA: usize = 255;
 
-/// How many data bytes follow the header, none where there are no data, and the byte Le.
-#[derive(Clone, Copy)]
+/// How many data bytes follow the header, and the byte Le.
+#[derive(Clone, Copy, PartialEq, Eq, Debug)]
 struct Body {
-    len: usize,
+    // No Option: 0 is the true number where there are no data, since Lc is at least 1.
+    len: u8,
     le: Option<u8>,
 }
 
 /// A command whose envelope is right.
-#[derive(Clone, Copy)]
+#[derive(Clone, Copy, PartialEq, Eq, Debug)]
 pub struct Envelope<'a> {
     pub operation: Operation,
     /// The command up to the end of its data.
     pub field: &'a [u8],
     /// The length that the command expects: 0 where it says none.
+    // No Option: a command without Le expects no bytes, and with Le at least 1.
     pub le: u16,
 }
 
+/// Reads what follows the header.
 fn read_body(command: &[u8]) -> Option<Body>
     ensures result { result ≡ body_of command.now }
     ensures sized { IfSome result (λ b. Fitting command.now b) }
 {
-    let n = command.len();
-    if n < 4 {
-        return None;
-    }
-    if n == 4 {
-        return Some(Body { len: 0, le: None });
-    }
-    let first = command[4];
-    if n == 5 {
-        return Some(Body {
+    match command {
+        [_, _, _, _] => Some(Body { len: 0, le: None }),
+        [_, _, _, _, le] => Some(Body {
             len: 0,
-            le: Some(first),
-        });
-    }
-    let len = first as usize;
-    if len == 0 {
-        return None;
-    }
-    if n == 5 + len {
-        return Some(Body { len, le: None });
-    }
-    if n == 6 + len {
-        return Some(Body {
-            len,
-            le: Some(command[5 + len]),
-        });
-    }
-    None
-}
-
-/// Whether the body carries what the operation wants.
-fn is_wanted(operation: Operation, body: Body) -> bool
-    ensures { result ≡ fits operation body }
-{
-    operation.carries_data() == (body.len != 0) && operation.carries_le() == body.le.is_some()
-}
-
-fn expected_length(le: Option<u8>) -> u16
-    ensures { result ≡ expected le }
-{
-    match le {
-        None => 0,
-        Some(0) => 256,
-        Some(n) => n as u16,
+            le: Some(*le),
+        }),
+        [_, _, _, _, 0, ..] => None,
+        [_, _, _, _, lc, data @ ..] if data.len() == *lc as usize => Some(Body {
+            len: *lc,
+            le: None,
+        }),
+        [_, _, _, _, lc, data @ .., le] if data.len() == *lc as usize => Some(Body {
+            len: *lc,
+            le: Some(*le),
+        }),
+        _ => None,
     }
 }
 
-/// Where the field ends: behind the header, or behind the data.
-fn field_end(body: Body) -> usize
-    requires { body.len < 256 }
-    ensures { result ≡ (if nat_eq body.len 0 then 4 else 5 + body.len) }
-{
-    if body.len == 0 { 4 } else { 5 + body.len }
+impl Body {
+    /// Whether the body carries what the operation wants.
+    fn is_wanted_by(self, operation: Operation) -> bool
+        ensures { result ≡ fits operation self }
+    {
+        operation.carries_data() == (self.len != 0) && operation.carries_le() == self.le.is_some()
+    }
+
+    /// Where the field ends: behind the header, or behind the data.
+    fn field_end(self) -> usize
+        ensures { result ≡ (if nat_eq self.len 0 then 4 else 5 + self.len) }
+    {
+        if self.len == 0 {
+            4
+        } else {
+            5 + self.len as usize
+        }
+    }
+
+    /// The length that Le says: '00' is 256.
+    fn expected_length(self) -> u16
+        ensures { result ≡ expected self.le }
+    {
+        match self.le {
+            None => 0,
+            Some(0) => 256,
+            Some(n) => n as u16,
+        }
+    }
 }
 
 /// Opens the envelope of a command that is given with an answer area of so many bytes.
@@ -109,31 +115,26 @@ pub fn open_envelope(command: &[u8], area: usize) -> Result<Envelope<'_>, Envelo
     if area < LEAST_AREA {
         return Err(EnvelopeFault::Area);
     }
-    let Some(body) = read_body(command) else {
+    let [cla, ins, p1, p2, ..] = *command else {
         return Err(EnvelopeFault::NoApdu);
     };
-    if command[0] != 0x00 {
+    let body = read_body(command).ok_or(EnvelopeFault::NoApdu)?;
+    if cla != 0x00 {
         return Err(EnvelopeFault::Class);
     }
-    let ins = command[1];
-    if ins != 0x10 && ins != 0x14 {
+    if !matches!(ins, 0x10 | 0x14) {
         return Err(EnvelopeFault::Instruction);
     }
-    if command[2] != 0x00 {
+    if p1 != 0x00 {
         return Err(EnvelopeFault::P1);
     }
-    let Some(operation) = operation_of(ins, command[3]) else {
-        return Err(EnvelopeFault::P2);
-    };
-    if !is_wanted(operation, body) {
+    let operation = Operation::of(ins, p2).ok_or(EnvelopeFault::P2)?;
+    if !body.is_wanted_by(operation) {
         return Err(EnvelopeFault::Shape);
     }
-    let end = field_end(body);
-    let field = &command[0..end];
-    let le = expected_length(body.le);
     Ok(Envelope {
         operation,
-        field,
-        le,
+        field: &command[..body.field_end()],
+        le: body.expected_length(),
     })
 }

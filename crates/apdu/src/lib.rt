@@ -6,4 +6,4 @@ mod envelope;
 mod operation;
 
 pub use envelope::{Envelope, EnvelopeFault, open_envelope};
-pub use operation::{Operation, operation_of};
+pub use operation::Operation;

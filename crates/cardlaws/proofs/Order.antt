@@ -1,8 +1,9 @@
 -- Strings of a column: how they are compared is lawful, and rows are level both ways or neither.
 use Rattle.std.proofs.Common.{◌≡◌, refl, ap, ◌∙◌}
-use Rattle.text.specs.declared.order.Order.{Order}
-use Rattle.text.specs.declared.order.Order.TheVariants.{Lower, Level, Higher}
-use Rattle.text.specs.Order.{mirrored, Lawful}
+use Rattle.std.specs.declared.cmp.Ordering.{Ordering}
+use Rattle.std.specs.declared.cmp.Ordering.TheVariants.{Less, Equal, Greater}
+use Rattle.std.specs.Ordering.{ordering_reverse}
+use Rattle.text.specs.Order.{Lawful}
 use Rattle.text.proofs.Orders.{order_lawful}
 use Rattle.fields.specs.Column.{Column}
 use Rattle.cardmodel.specs.State.{Bytes, Row, Placed}
@@ -14,10 +15,10 @@ pub compared_lawful : (c : Column) → Lawful (compared c)
 unfolding compared
 compared_lawful c = order_lawful
 
-level_mirrored : (o : Order) → is_level (mirrored o) ≡ is_level o
-level_mirrored Lower = refl
-level_mirrored Level = refl
-level_mirrored Higher = refl
+level_mirrored : (o : Ordering) → is_level (ordering_reverse o) ≡ is_level o
+level_mirrored Less = refl
+level_mirrored Equal = refl
+level_mirrored Greater = refl
 
 pub level_back : (c : Column) (x y : Bytes) → is_level (compared c y x) ≡ is_level (compared c x y)
 level_back c x y = ap is_level ((compared_lawful c).back x y) ∙ level_mirrored (compared c x y)

@@ -1,8 +1,8 @@
 -- The commands of the cursor and of rows. They leave the catalogue.
 use Rattle.std.specs.Prelude.{ℕ, suc, Bool, true, false, cond, ◌&&◌, ◌||◌, List, [], ◌∷◌, ◌++◌, map, length, Some, None, Option, ◌==◌, nat_eq, nat_le, slice_index_or, slice_set}
 use Rattle.std.specs.List.{remove}
-use Rattle.text.specs.declared.order.Order.{Order}
-use Rattle.text.specs.declared.order.Order.TheVariants.{Lower, Level, Higher}
+use Rattle.std.specs.declared.cmp.Ordering.{Ordering}
+use Rattle.std.specs.declared.cmp.Ordering.TheVariants.{Less, Equal, Greater}
 use Rattle.fields.specs.Column.{Column}
 use Rattle.fields.specs.Reader.{Parameter}
 use Rattle.cells.specs.Form.{encoded}
@@ -119,10 +119,10 @@ first_long [] = None
 first_long (w ∷ ws) = cond (nat_le (length w.string.bytes) w.to.column.longest) (first_long ws) (Some w.string.place)
 
 -- the first string of a unique column that is level with another row's
-abbrev pub is_level : Order → Bool
-is_level Lower = false
-is_level Level = true
-is_level Higher = false
+abbrev pub is_level : Ordering → Bool
+is_level Less = false
+is_level Equal = true
+is_level Greater = false
 
 unfoldable pub clashes : Write → Row → Bool
 clashes w r = w.to.column.unique && is_level (compared w.to.column w.string.bytes (cell r w.to.number))

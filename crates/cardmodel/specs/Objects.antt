@@ -4,7 +4,7 @@ use Rattle.std.specs.List.{range_with_len}
 use Rattle.std.specs.Option.{option_map}
 use Rattle.std.specs.Str.{bytes_eq}
 use Rattle.text.specs.declared.operator.Operator.{Operator}
-use Rattle.text.specs.declared.order.Order.{Order}
+use Rattle.std.specs.declared.cmp.Ordering.{Ordering}
 use Rattle.text.specs.Operator.{coded_by, holds_of}
 use Rattle.text.specs.Order.{order}
 use Rattle.fields.specs.Column.{Column, column_of}
@@ -153,7 +153,7 @@ abbrev pub cell : Row → ℕ → Bytes
 cell r n = slice_index_or r n []
 
 -- how two strings of a column stand to one another
-unfoldable pub compared : Column → Bytes → Bytes → Order
+unfoldable pub compared : Column → Bytes → Bytes → Ordering
 compared c x y = order x y
 
 unfoldable pub passes : Row → Test → Bool

@@ -1,14 +1,17 @@
 ghost use Rattle.std.specs.Prelude.{◌≡◌, Some};
 ghost use Rattle.std.specs.Result.{result_ok};
-ghost use Rattle.commands.specs.Codes.{profile_of, right_of, profile_word, right_word};
+ghost use Rattle.commands.specs.Codes.{profile_of, profile_word, right_word, DecodesRight};
 
 use crate::command::{Profile, Right};
 use std::fmt;
+use thiserror::Error;
 
 /// A text that names no profile.
-#[derive(Clone, Copy, PartialEq, Eq, Debug)]
+#[derive(Clone, Copy, PartialEq, Eq, Debug, Error)]
+#[error("no profile has that name")]
 pub struct UnknownProfile;
 
+/// The profile that a text names.
 impl TryFrom<&[u8]> for Profile {
     type Error = UnknownProfile;
 
@@ -23,6 +26,7 @@ impl TryFrom<&[u8]> for Profile {
     }
 }
 
+/// The text that names the profile.
 impl fmt::Display for Profile {
     ghost output = { λ p. Some (profile_word p) };
 
@@ -35,13 +39,15 @@ impl fmt::Display for Profile {
 }
 
 /// A code that no right has.
-#[derive(Clone, Copy, PartialEq, Eq, Debug)]
+#[derive(Clone, Copy, PartialEq, Eq, Debug, Error)]
+#[error("no right has the code {0:02X}")]
 pub struct UnknownRight(pub u8);
 
+/// The right of a code.
 impl TryFrom<u8> for Right {
     type Error = UnknownRight;
 
-    ghost try_from_gives = { λ code r. result_ok r ≡ right_of code };
+    ghost try_from_gives = { DecodesRight };
 
     fn try_from(code: u8) -> Result<Right, UnknownRight> {
         match code {
@@ -55,6 +61,7 @@ impl TryFrom<u8> for Right {
     }
 }
 
+/// The word of the right.
 impl fmt::Display for Right {
     ghost output = { λ r. Some (right_word r) };
 

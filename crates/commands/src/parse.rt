@@ -11,14 +11,18 @@ use crate::parsers::{
 };
 use apdu::{Envelope, EnvelopeFault, Operation, open_envelope};
 use fields::FieldFault;
+use thiserror::Error;
 
 /// Why a command is not understood, and by which layer.
-#[derive(Clone, Copy, PartialEq, Eq, Debug)]
+#[derive(Clone, Copy, PartialEq, Eq, Debug, Error)]
 pub enum CommandFault {
+    #[error("{0}")]
     Envelope(EnvelopeFault),
+    #[error("{0}")]
     Field(FieldFault),
 }
 
+// These two are written out because a derived `From` promises nothing of the variant that it makes.
 impl From<EnvelopeFault> for CommandFault {
     ghost from_gives = { λ e r. r ≡ InEnvelope e };
 

@@ -3,9 +3,11 @@ ghost use Rattle.fields.specs.Reader.{parameter, param_at, count_at, identifier_
 ghost use Rattle.fields.specs.Reads.{Reads, end_at};
 
 use text::{Operator, is_identifier};
+use thiserror::Error;
 
 /// A field breaks its form at this offset of the command.
-#[derive(Clone, Copy, PartialEq, Eq, Debug)]
+#[derive(Clone, Copy, PartialEq, Eq, Debug, Error)]
+#[error("the field breaks its form")]
 pub struct FieldFault {
     pub place: usize,
 }
@@ -132,7 +134,7 @@ impl<'a> Reader<'a> {
     {
         let fault = self.fault();
         let code = self.byte()?;
-        Operator::of(code).ok_or(fault)
+        Operator::try_from(code).map_err(|_| fault)
     }
 
     /// Whether nothing is left over.

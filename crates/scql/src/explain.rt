@@ -71,6 +71,13 @@ fn tell<W: fmt::Write>(f: &mut fmt::Formatter<W>, words: &str, name: Part) -> fm
     write!(f, "{words}{name}")
 }
 
+fn tell_string<W: fmt::Write>(f: &mut fmt::Formatter<W>, string: Part) -> fmt::Result {
+    let string = Quoted {
+        bytes: string.bytes,
+    };
+    write!(f, "{string}")
+}
+
 /// Writes the items of a list, with `opening` before the first and `between` before each other.
 fn tell_list<T: Drop, I: Iterator<Item = T> + Drop, W: fmt::Write, F>(
     f: &mut fmt::Formatter<W>,
@@ -128,19 +135,26 @@ fn tell_names<W: fmt::Write>(f: &mut fmt::Formatter<W>, columns: Parts) -> fmt::
     tell_list(f, ": ", ", ", columns, |f, column| tell(f, "", column))
 }
 
-fn operator_sign(code: &[u8]) -> &'static str {
-    match code {
-        [code] => match Operator::of(*code) {
-            Some(Operator::Equal) => "=",
-            Some(Operator::Less) => "<",
-            Some(Operator::Greater) => ">",
-            Some(Operator::AtMost) => "<=",
-            Some(Operator::AtLeast) => ">=",
-            Some(Operator::Unequal) => "<>",
-            None => "?",
-        },
-        _ => "?",
+/// The operator whose code is a parameter of one byte.
+fn operator_of(code: Part) -> Option<Operator> {
+    match code.bytes {
+        [code] => Operator::try_from(*code).ok(),
+        _ => None,
     }
+}
+
+fn tell_condition<W: fmt::Write>(
+    f: &mut fmt::Formatter<W>,
+    column: Part,
+    code: Part,
+    string: Part,
+) -> fmt::Result {
+    tell(f, "", column)?;
+    match operator_of(code) {
+        Some(operator) => write!(f, " {operator} ")?,
+        None => f.write_str(" ? ")?,
+    }
+    tell_string(f, string)
 }
 
 fn tell_conditions<W: fmt::Write>(f: &mut fmt::Formatter<W>, conditions: Parts) -> fmt::Result {
@@ -149,14 +163,7 @@ fn tell_conditions<W: fmt::Write>(f: &mut fmt::Formatter<W>, conditions: Parts) 
         " where ",
         " and ",
         conditions.tuples(),
-        |f, (column, code, string)| {
-            tell(f, "", column)?;
-            let sign = operator_sign(code.bytes);
-            let string = Quoted {
-                bytes: string.bytes,
-            };
-            write!(f, " {sign} {string}")
-        },
+        |f, (column, code, string)| { tell_condition(f, column, code, string) },
     )
 }
 
@@ -179,18 +186,13 @@ fn tell_strings<W: fmt::Write>(f: &mut fmt::Formatter<W>, strings: Parts) -> fmt
     let count = strings.count;
     let noun = if count == 1 { "string" } else { "strings" };
     write!(f, ": {count} {noun}")?;
-    tell_list(f, ": ", ", ", strings, |f, part| {
-        let string = Quoted { bytes: part.bytes };
-        write!(f, "{string}")
-    })
+    tell_list(f, ": ", ", ", strings, |f, string| tell_string(f, string))
 }
 
 fn tell_assignments<W: fmt::Write>(f: &mut fmt::Formatter<W>, assignments: Parts) -> fmt::Result {
     tell_list(f, "", ", ", assignments.tuples(), |f, (column, string)| {
         tell(f, "", column)?;
-        let string = Quoted {
-            bytes: string.bytes,
-        };
-        write!(f, " to {string}")
+        f.write_str(" to ")?;
+        tell_string(f, string)
     })
 }

@@ -11,19 +11,6 @@ pub struct Refusal<'a> {
     pub fault: CommandFault,
 }
 
-fn cause_words(fault: CommandFault) -> &'static str {
-    match fault {
-        CommandFault::Envelope(EnvelopeFault::Area) => "the answer area is under 255 bytes",
-        CommandFault::Envelope(EnvelopeFault::NoApdu) => "not a command",
-        CommandFault::Envelope(EnvelopeFault::Class) => "CLA is not 00",
-        CommandFault::Envelope(EnvelopeFault::Instruction) => "INS is unknown",
-        CommandFault::Envelope(EnvelopeFault::P1) => "P1 is not 00",
-        CommandFault::Envelope(EnvelopeFault::P2) => "P2 is unknown",
-        CommandFault::Envelope(EnvelopeFault::Shape) => "data or Le is missing or unwanted",
-        CommandFault::Field(_) => "the field breaks its form",
-    }
-}
-
 /// The byte of the command that is at fault, if one is.
 fn marked_place(fault: CommandFault) -> Option<usize> {
     match fault {
@@ -43,14 +30,14 @@ impl fmt::Display for Refusal<'_> {
         let cause = status.cause;
         let layer = status.layer;
         let place = status.place;
-        let words = cause_words(self.fault);
+        let fault = self.fault;
         let bytes = Marked {
             bytes: self.command,
             place: marked_place(self.fault),
         };
         write!(
             f,
-            "{word:04X} cause {cause} layer {layer} place {place}: {words}: {bytes}"
+            "{word:04X} cause {cause} layer {layer} place {place}: {fault}: {bytes}"
         )
     }
 }

@@ -7,5 +7,5 @@ mod operator;
 mod order;
 
 pub use identifier::is_identifier;
-pub use operator::Operator;
-pub use order::{Order, compare};
+pub use operator::{Operator, UnknownOperator};
+pub use order::compare;

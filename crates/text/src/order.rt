@@ -1,33 +1,13 @@
 ghost use Rattle.std.specs.Prelude.{◌≡◌};
 ghost use Rattle.text.specs.Order.{order, Lawful};
 
-/// How one string stands to another.
-#[derive(Clone, Copy)]
-pub enum Order {
-    Lower,
-    Level,
-    Higher,
-}
+use std::cmp::Ordering;
 
+#[tactic(auto, using(crate::proofs::Orders::slices_order))]
 /// Compares two strings as unsigned bytes from the left; a prefix is lower.
-pub fn compare(left: &[u8], right: &[u8]) -> Order
+pub fn compare(left: &[u8], right: &[u8]) -> Ordering
     ensures result { result ≡ order left.now right.now }
     ensures lawful { Lawful order }
 {
-    let n = left.len().min(right.len());
-    for i in 0..n {
-        if left[i] < right[i] {
-            return Order::Lower;
-        }
-        if left[i] > right[i] {
-            return Order::Higher;
-        }
-    }
-    if left.len() < right.len() {
-        return Order::Lower;
-    }
-    if left.len() > right.len() {
-        return Order::Higher;
-    }
-    Order::Level
+    left.cmp(right)
 }

@@ -1,9 +1,8 @@
-use Rattle.std.proofs.Common.{sym, rules}
+use Rattle.std.proofs.Common.{sym, ◌∙◌}
 use Rattle.apdu.proofs.Fields.{field_within}
 use Rattle.apdu.proofs.envelope.open_envelope.Goals as goal
 
-pub returns : goal.returns
-returns c = record {
-  result = search rules;
-  within = field_within c.args.command.now c.in-Some-operation_of.operation c.in-Some.body c.field_end-end.result c.in-Some.ensures.sized (sym c.if-not-is_wanted.ensures) c.field_end-end.ensures;
-}
+pub returns-clause-within : goal.returns-clause-within
+returns-clause-within c =
+    let fitting = rw c.in_ok-body.ensures.ok_part at c.read_body.ensures.sized in
+    field_within c.args.command.now c.in_ok-operation.operation c.in_ok-body.body c.field_end.result fitting (sym c.is_wanted_by.ensures ∙ c.if-not-is_wanted_by.false) c.field_end.ensures
