@@ -1,6 +1,6 @@
 -- The laws of the form, and reading from it.
-use Rattle.std.proofs.Common.{◌≡◌, ℕ, zero, suc, ◌+◌, ◌-◌, ◌<◌, ◌≤◌, min, leb, List, [], ◌∷◌, ◌++◌, length, get_or, take, drop, Some, None, Option, sym, refl, ap, ◌∙◌, ⊎_elim, add_assoc, arith}
-use Rattle.std.proofs.lemmas.List.{at_drop_more, at_drop_all, take_all, drop-drop, length-drop, take_at, drop_at, take-append-drop, length-append, length-take-le}
+use Rattle.std.proofs.Common.{◌≡◌, ℕ, zero, suc, ◌+◌, ◌-◌, ◌<◌, ◌≤◌, leb, List, [], ◌∷◌, ◌++◌, length, get_or, take, drop, Some, None, Option, sym, refl, ap, ◌∙◌, ⊎_elim, arith}
+use Rattle.std.proofs.lemmas.List.{take_at, drop_at, take-append-drop, length-append, length-take-le}
 use Rattle.std.proofs.lemmas.Bool.{cases_lt, le-leb, lt-leb, cond-true, cond-false}
 use Rattle.cells.specs.Form.{encoded, encoded_cells, before, decoded, decoded_cells, string_of, behind, cell_from, RoundTrip, CellsRead, CountRead}
 
@@ -21,12 +21,12 @@ record Opened (k n : ℕ) (bs : List ℕ) (cs : List (List ℕ)) : Type 0 where
 opened : (k n : ℕ) (bs : List ℕ) (cs : List (List ℕ)) → decoded_cells (suc k) (n ∷ bs) ≡ Some cs → Opened k n bs cs
 opened k n bs cs h =
     ⊎_elim
-    (λ (l : length bs < n). let p = cond-false (leb n (length bs)) (before (take n bs) (decoded_cells k (drop n bs))) None (lt-leb n (length bs) l) in let z : ◌≡◌ {A = ℕ} 0 1 = cc in absurd (omega arith))
+    (λ (l : length bs < n). let p = cond-false (leb n (length bs)) (before (take n bs) (decoded_cells k (drop n bs))) None (lt-leb n (length bs) l) in absurd cc)
     (λ (l : n ≤ length bs). from l (decoded_cells k (drop n bs)) refl (sym (cond-true (leb n (length bs)) (before (take n bs) (decoded_cells k (drop n bs))) None (le-leb n (length bs) l)) ∙ h))
     (cases_lt (length bs) n)
   where
     from : n ≤ length bs → (o : Option (List (List ℕ))) → decoded_cells k (drop n bs) ≡ o → before (take n bs) o ≡ Some cs → Opened k n bs cs
-    from l None e b = let z : ◌≡◌ {A = ℕ} 0 1 = cc in absurd (omega arith)
+    from l None e b = absurd cc
     from l (Some rs) e b = record { within = l; rest = rs; whole = cc; others = e }
 
 -- what is known of bytes that were read as so many cells
@@ -43,8 +43,8 @@ read : (k : ℕ) (bs : List ℕ) (cs : List (List ℕ)) → decoded_cells k bs �
 read zero [] cs h =
     let e : cs ≡ [] = cc in
     record { count = sym (ap length e); bytes = ap encoded_cells e; each = λ j. from_none j ∙ sym (ap (λ l. get_or l j []) e) }
-read zero (b ∷ bs) cs h = let z : ◌≡◌ {A = ℕ} 0 1 = cc in absurd (omega arith)
-read (suc k) [] cs h = let z : ◌≡◌ {A = ℕ} 0 1 = cc in absurd (omega arith)
+read zero (b ∷ bs) cs h = absurd cc
+read (suc k) [] cs h = absurd cc
 read (suc k) (n ∷ bs) cs h =
     let o = opened k n bs cs h in
     let r = read k (drop n bs) o.rest o.others in
@@ -59,36 +59,26 @@ read (suc k) (n ∷ bs) cs h =
     either rest e f (suc j) = f j ∙ sym (ap (λ l. get_or l (suc j) []) e)
 
 form_back : (bs : List ℕ) (cs : List (List ℕ)) → decoded bs ≡ Some cs → encoded cs ≡ bs
-form_back [] cs h = let z : ◌≡◌ {A = ℕ} 0 1 = cc in absurd (omega arith)
+form_back [] cs h = absurd cc
 form_back (n ∷ bs) cs h = let r = read n bs cs h in λ i. sym r.count i ∷ r.bytes i
 
 pub round_trip : RoundTrip
 round_trip = (cells_back, form_back)
 
 pub cells_read : CellsRead
-cells_read [] cs h = let z : ◌≡◌ {A = ℕ} 0 1 = cc in absurd (omega arith)
+cells_read [] cs h = absurd cc
 cells_read (n ∷ bs) cs h = (read n bs cs h).each
 
 pub count_read : CountRead
-count_read [] cs h = let z : ◌≡◌ {A = ℕ} 0 1 = cc in absurd (omega arith)
+count_read [] cs h = absurd cc
 count_read (n ∷ bs) cs h = (read n bs cs h).count
 
--- the string from behind its length byte to its end, or to the end of the bytes
-pub string_cut : (bs : List ℕ) (p e : ℕ) → p < length bs → e ≡ min (p + 1 + get_or bs p 0) (length bs) → take (e - (p + 1)) (drop (p + 1) bs) ≡ string_of (drop p bs)
-string_cut bs p e l is =
-    ⊎_elim
-    (λ (long : length bs < p + 1 + get_or bs p 0). take_all (e - (p + 1)) (drop (p + 1) bs) (simp length-drop (omega arith)) ∙ sym (take_all (get_or bs p 0) (drop (p + 1) bs) (simp length-drop (omega arith))))
-    (λ (short : p + 1 + get_or bs p 0 ≤ length bs). let n : e - (p + 1) ≡ get_or bs p 0 = omega arith in ap (λ n. take n (drop (p + 1) bs)) n)
-    (cases_lt (length bs) (p + 1 + get_or bs p 0))
-    ∙ sym (at_drop_more string_of bs p 0 l)
-
 -- one cell on
-pub cell_on : (row : List ℕ) (p k i : ℕ) → p < length row → i < k → cell_from (drop (p + (1 + get_or row p 0)) row) (k - (i + 1)) ≡ cell_from (drop p row) (k - i)
-cell_on row p k i l h =
+pub cell_on : (bs next : List ℕ) (k i : ℕ) → i < k → next ≡ behind bs → cell_from next (k - (i + 1)) ≡ cell_from bs (k - i)
+cell_on bs next k i h is =
     let step : k - i ≡ suc (k - (i + 1)) = omega arith in
-    let on : behind (drop p row) ≡ drop (p + (1 + get_or row p 0)) row = at_drop_more behind row p 0 l ∙ drop-drop (get_or row p 0) (p + 1) row ∙ ap (λ n. drop n row) (add_assoc p 1 (get_or row p 0)) in
-    sym (ap (cell_from (drop p row)) step ∙ ap (λ bs. cell_from bs (k - (i + 1))) on)
+    ap (λ rest. cell_from rest (k - (i + 1))) is ∙ sym (ap (cell_from bs) step)
 
--- past the end of the row
-pub cell_past : (row : List ℕ) (p k : ℕ) → length row ≤ p → string_of (drop p row) ≡ cell_from (drop p row) k
-cell_past row p k h = at_drop_all string_of row p h ∙ sym (from_none k) ∙ sym (at_drop_all (λ bs. cell_from bs k) row p h)
+-- where nothing is left
+pub cell_past : (bs : List ℕ) (k : ℕ) → bs ≡ [] → string_of bs ≡ cell_from bs k
+cell_past bs k e = ap string_of e ∙ sym (from_none k) ∙ sym (ap (λ rest. cell_from rest k) e)

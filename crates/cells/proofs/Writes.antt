@@ -1,13 +1,16 @@
 -- What is measured and written of a new row, cell by cell.
-use Rattle.std.proofs.Common.{◌≡◌, ℕ, suc, ◌+◌, ◌<◌, ◌≤◌, leb, List, [], ◌∷◌, ◌++◌, length, get_or, take, drop, set, Some, None, sym, refl, ap, ◌∙◌, ⊎_elim, append_assoc, append-nil, arith}
+use Rattle.std.proofs.Common.{◌≡◌, ℕ, suc, ◌+◌, ◌<◌, ◌≤◌, List, [], ◌∷◌, ◌++◌, length, get_or, take, drop, set, min, ◌*◌, Some, sym, refl, ap, ◌∙◌, append_assoc, append-nil, arith}
 use borrow.Rule.Slice.PartMut.{put_mid}
 use Rattle.std.proofs.lemmas.List.{at_drop_more, at_drop_all, length-append, length-set, take_more_set, drop-set-lt, drop-drop, take-append-drop}
 use Rattle.std.proofs.lemmas.Slice.{take-put_mid, drop-put_mid}
-use Rattle.std.proofs.lemmas.Bool.{cases_lt, le-leb, lt-leb, cond-true, cond-false}
+use Rattle.std.proofs.lemmas.Grind.{common_steps}
+use Rattle.std.proofs.lemmas.Bool.Decides.{nat_tests}
+use Rattle.std.proofs.lemmas.List.Sums.{sum_by-cons}
+use Rattle.std.specs.List.{enumerate_from, sum_by}
 use Rattle.cells.specs.declared.source.Source.{Source}
 use Rattle.cells.specs.Form.{encoded, encoded_cell, encoded_cells}
 use Rattle.cells.specs.Source.{supplied, cells_on, new_cells}
-use Rattle.cells.specs.Write.{measured, fitted}
+use Rattle.cells.specs.Write.{measured}
 
 -- the bytes of the cells from a column on
 abbrev pub bytes_on : List ℕ → List ℕ → List Source → ℕ → List ℕ
@@ -23,24 +26,40 @@ module _ (command old : List ℕ) (sources : List Source) (k : ℕ) where
   pub bytes_end : length sources ≤ k → bytes_on command old sources k ≡ []
   bytes_end h = at_drop_all (λ ss. encoded_cells (cells_on command old k ss)) sources k h
 
+-- as many cells as sources
 length-on : (command old : List ℕ) (sources : List Source) (k : ℕ) → length (cells_on command old k sources) ≡ length sources
 length-on command old [] k = refl
 length-on command old (s ∷ ss) k = ap suc (length-on command old ss (k + 1))
 
+-- the length of a cell with its length byte, by column and source
+abbrev pub cell_length : List ℕ → List ℕ → ℕ × Source → ℕ
+cell_length command old p = 1 + length (supplied command old p.0 p.1)
+
+-- those lengths together are that of the form's cells
+pub lengths_on : (command old : List ℕ) (k : ℕ) (ss : List Source) → sum_by (cell_length command old) (enumerate_from k ss) ≡ length (encoded_cells (cells_on command old k ss))
+lengths_on command old k [] = refl
+lengths_on command old k (s ∷ ss) =
+    let first = sum_by-cons (cell_length command old) (k, s) (enumerate_from (k + 1) ss) in
+    let others = lengths_on command old (k + 1) ss in
+    let both = length-append (supplied command old k s) (encoded_cells (cells_on command old (k + 1) ss)) in
+    omega arith
+
+-- with the count byte they are what is measured
+pub measured_sum : (command old : List ℕ) (sources : List Source) (n : ℕ) → length sources ≤ 255 → n ≡ sum_by (cell_length command old) (enumerate_from 0 sources) → Some (1 + n) ≡ measured command old sources
+measured_sum command old sources n few is = let all = lengths_on command old 0 sources in grind (arith, nat_tests)
+
+-- a sum of numbers that are cut at a top
+pub sum_under : {X : Type 0} (f : X → ℕ) (top : ℕ) (xs : List X) → sum_by (λ x. min (f x) top) xs ≤ top * length xs
+sum_under f top [] = omega arith
+sum_under f top (x ∷ xs) =
+    let first = sum_by-cons (λ y. min (f y) top) x xs in
+    let others = sum_under f top xs in
+    omega arith
+
 module _ (command old : List ℕ) (sources : List Source) (n : ℕ) (e : measured command old sources ≡ Some n) where
   -- a length that was measured is that of the form
   pub measured_is : n ≡ length (encoded (new_cells command old sources))
-  measured_is =
-      ⊎_elim
-      (λ (l : 255 < length sources). let p = cond-false (leb (length sources) 255) (Some (length (encoded (new_cells command old sources)))) None (lt-leb (length sources) 255 l) in let z : ◌≡◌ {A = ℕ} 0 1 = cc in absurd (omega arith))
-      (λ (l : length sources ≤ 255). let p = cond-true (leb (length sources) 255) (Some (length (encoded (new_cells command old sources)))) None (le-leb (length sources) 255 l) in cc)
-      (cases_lt 255 (length sources))
-
-  pub too_long : (space : ℕ) → space < n → fitted space (measured command old sources) ≡ None
-  too_long space h = ap (fitted space) e ∙ cond-false (leb n space) (Some n) None (lt-leb n space h)
-
-  pub fits_in : (space : ℕ) → n ≤ space → fitted space (measured command old sources) ≡ Some n
-  fits_in space h = ap (fitted space) e ∙ cond-true (leb n space) (Some n) None (le-leb n space h)
+  measured_is = grind (arith, nat_tests)
 
 -- an area to which a cell was written
 module _ (area : List ℕ) (place k : ℕ) (cell now : List ℕ) (fits : place + 1 + length cell ≤ length area) (is : now ≡ cell) where
@@ -67,8 +86,7 @@ row_begun command old sources area h =
 
 -- one more cell is written
 pub row_more : (front cell next rest whole now : List ℕ) → front ++ next ≡ whole → next ≡ encoded_cell cell ++ rest → now ≡ front ++ encoded_cell cell → now ++ rest ≡ whole
-row_more front cell next rest whole now e more is =
-    ap (λ l. l ++ rest) is ∙ append_assoc front (encoded_cell cell) rest ∙ ap (λ l. front ++ l) (sym more) ∙ e
+row_more front cell next rest whole now e more is = grind (arith, common_steps)
 
 -- and what lies past it stays
 pub past_more : (end m to : ℕ) (was area now : List ℕ) → to ≡ end + m → drop to now ≡ drop to area → drop end area ≡ drop end was → drop to now ≡ drop to was

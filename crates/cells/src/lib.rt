@@ -6,6 +6,6 @@ mod form;
 mod source;
 mod write;
 
-pub use form::{cell, count};
-pub use source::{Source, supplied_cell};
-pub use write::{measure_row, write_row};
+pub use form::{CellBytes, cell, count};
+pub use source::Source;
+pub use write::NewRow;
