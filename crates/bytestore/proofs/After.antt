@@ -3,7 +3,7 @@ use Rattle.std.proofs.Common.{◌≡◌, ℕ, ◌+◌, ◌-◌, ◌*◌, ◌<◌
 use Rattle.std.specs.List.{remove as without}
 use Rattle.std.proofs.lemmas.List.{length-set, length-map, set-get_or, get_or-set_same, get_or-set_other}
 use Rattle.std.proofs.lemmas.Bool.{cases_lt}
-use Rattle.rowmodel.specs.Meaning.{Meaning, unused, used, table, table_of, rows_of, Limited, Sized, Roomy, Sound}
+use Rattle.rowmodel.specs.Meaning.{Meaning, unused, used, table, table_of, rows_of, Sound}
 use Rattle.rowmodel.specs.Needs.{make_unmet, drop_unmet, append_unmet, replace_unmet, remove_unmet}
 use Rattle.rowmodel.specs.Calls.{made, dropped, listed, appended, replaced, removed}
 use Rattle.rowmodel.proofs.Needed.{make_met, append_met, replace_met, place_met}
@@ -17,7 +17,7 @@ use Rattle.bytestore.proofs.Regions.{table_alike, tables_set, listed_meaning}
 use Rattle.bytestore.proofs.Areas.{within_set, apart_set}
 use Rattle.bytestore.proofs.Closing.{lowered_limit, lowered_count, alike_raised, raised_place, lowered_within, region_closed, closed_within, closed_apart}
 use Rattle.bytestore.proofs.Rows.{rows_appended, rows_replaced, rows_removed}
-use Rattle.bytestore.proofs.Stores.{bytes_of, free_of, region_of, meaning_of, sound_of, limit_at, some_at, table_at, number_fits, rows_at, count_at, small_at, parts}
+use Rattle.bytestore.proofs.Stores.{bytes_of, free_of, region_of, meaning_of, limit_at, some_at, table_at, number_fits, rows_at, count_at, small_at, parts}
 
 -- what the ghost fields of a store with these bytes, regions, top and places are owed
 abbrev pub Owed : List ℕ → List Region → ℕ → ℕ → Type 0
@@ -26,9 +26,7 @@ Owed bs rs top places = record {
   fits : (241 * places ≤ length bs) × (top ≤ places);
   within : Within top rs;
   apart : Apart rs;
-  limited : Limited (byte_meaning bs rs (places - top));
-  sized : Sized (byte_meaning bs rs (places - top));
-  roomy : Roomy (byte_meaning bs rs (places - top));
+  sound : Sound (byte_meaning bs rs (places - top));
 }
 
 -- other bytes, regions and top mean m, and are a store
@@ -40,8 +38,7 @@ pub record After (s : ByteStore) (bs : List ℕ) (rs : List Region) (top : ℕ) 
 after : (s : ByteStore) (bs : List ℕ) (rs : List Region) (top : ℕ) (m : Meaning) → length bs ≡ length (bytes_of s) → length rs ≡ 16 → top ≤ s.places → Within top rs → Apart rs → Sound m →
     byte_meaning bs rs (s.places - top) ≡ m → After s bs rs top m
 after s bs rs top m len long low within apart sound e =
-    let h = subst Sound (sym e) sound in
-    record { means = e; owed = record { long = long; fits = (omega (arith, s.fits), low); within = within; apart = apart; limited = h.limited; sized = h.sized; roomy = h.roomy } }
+    record { means = e; owed = record { long = long; fits = (omega (arith, s.fits), low); within = within; apart = apart; sound = subst Sound (sym e) sound } }
 
 -- the regions with another count at a number
 abbrev pub recounted : List Region → ℕ → ℕ → List Region
@@ -58,7 +55,7 @@ module _ (s : ByteStore) (t : ℕ) (cs : List ℕ) (len : length cs ≡ length (
       (within_set s.regions t r lt s.top s.top s.within (omega arith) (λ p c. s.within t p c))
       (apart_set s.regions t r lt s.apart (λ u p c d. s.apart (record { one = u; other = t; place = p; in_one = d; in_other = c })))
       sound
-      (listed_meaning (bytes_of s) s.regions (free_of s) (sound_of s) s.apart cs t outside n rows lt some e)
+      (listed_meaning (bytes_of s) s.regions (free_of s) s.sound s.apart cs t outside n rows lt some e)
 
   -- a row written at place p
   module _ (p : ℕ) (row : List ℕ) (wrote : row_in cs p ≡ row) (others : (q : ℕ) → q ≢ p → Alike cs q (bytes_of s) q) where
@@ -73,7 +70,7 @@ module _ (s : ByteStore) (t : ℕ) (cs : List ℕ) (len : length cs ≡ length (
         (ap (rows_from cs (region_of s t).base) more
         ∙ rows_appended (bytes_of s) cs (region_of s t).base (region_of s t).count (small_at s t some) p row wrote others e
         ∙ sym (ap (λ x. rows_of x ++ (row ∷ [])) (table_at s t some)))
-        (sound_appended (meaning_of s) t row (sound_of s) o)
+        (sound_appended (meaning_of s) t row s.sound o)
 
     pub replace_after : (k : ℕ) → replace_unmet (meaning_of s) t k row ≡ None → p ≡ (region_of s t).base + k → After s cs s.regions s.top (replaced (meaning_of s) t k row)
     replace_after k o e =
@@ -85,7 +82,7 @@ module _ (s : ByteStore) (t : ℕ) (cs : List ℕ) (len : length cs ≡ length (
         (λ q no. others q (λ z. no (omega arith, omega (arith, count_at s t some))))
         (rows_replaced (bytes_of s) cs (region_of s t).base (region_of s t).count (small_at s t some) p row wrote others k inside e
         ∙ sym (ap (λ x. set (rows_of x) k row) (table_at s t some)))
-        (sound_replaced (meaning_of s) t k row (sound_of s) o))
+        (sound_replaced (meaning_of s) t k row s.sound o))
 
   -- the rows past place p of the table moved down to it
   pub remove_after : (k p : ℕ) → remove_unmet (meaning_of s) t k ≡ None → p ≡ (region_of s t).base + k →
@@ -100,7 +97,7 @@ module _ (s : ByteStore) (t : ℕ) (cs : List ℕ) (len : length cs ≡ length (
       (λ q no. ⊎_elim (below q) (λ l. above q (⊎_elim (λ m. absurd (no (omega arith, omega (arith, count_at s t some)))) (λ m. m) (cases_lt q (p + ((region_of s t).count - 1 - k))))) (cases_lt q p))
       (rows_removed (bytes_of s) cs (region_of s t).base (region_of s t).count (small_at s t some) k p inside e below moved
       ∙ sym (ap (λ x. without (rows_of x) k) (table_at s t some)))
-      (sound_removed (meaning_of s) t k (sound_of s) o)
+      (sound_removed (meaning_of s) t k s.sound o)
 
 -- a region of free places, from the top on
 pub make_after : (s : ByteStore) (t limit : ℕ) → make_unmet (meaning_of s) t limit ≡ None →
@@ -112,7 +109,7 @@ make_after s t limit o =
     after s (bytes_of s) (set s.regions t r) (s.top + limit) (made (meaning_of s) t limit) refl (length-set s.regions t r ∙ s.long) (omega (arith, met.4, s.fits.1))
     (within_set s.regions t r lt s.top (s.top + limit) s.within (omega arith) (λ p c. c.1))
     (apart_set s.regions t r lt s.apart (λ u p c d. absurd (omega (arith, c.0, s.within u p d))))
-    (sound_made (meaning_of s) t limit (sound_of s) o)
+    (sound_made (meaning_of s) t limit s.sound o)
     (ap (λ ts. record { tables = ts; free = s.places - (s.top + limit) })
     (tables_set (bytes_of s) (bytes_of s) s.regions (set s.regions t r) t (used limit []) (length-set s.regions t r) lt
     (ap (table_in (bytes_of s)) (get_or-set_same s.regions t r none lt) ∙ table_of_used limit [] met.2)
@@ -157,7 +154,7 @@ module _ (s : ByteStore) (t : ℕ) (g : Region) (e : g ≡ region_of s t) (some 
         (after s cs (set lowers t none) (s.top - g.limit) (dropped (meaning_of s) t) len (long ∙ s.long) (omega (arith, s.fits.1))
         (closed_within s.regions g t positive clear lt s.top s.within end_fits)
         (closed_apart s.regions g t positive clear lt s.apart)
-        (sound_dropped (meaning_of s) t (sound_of s) o)
+        (sound_dropped (meaning_of s) t s.sound o)
         (ap (λ ts. record { tables = ts; free = s.places - (s.top - g.limit) })
         (tables_set (bytes_of s) cs s.regions (set lowers t none) t unused long lt
         (ap (table_in cs) (get_or-set_same lowers t none none (omega (arith, length-map s.regions (lowered g)))))

@@ -1,3 +1,4 @@
+pub mod Maps
 pub mod Bytes
 pub mod Regions
 pub mod Areas

@@ -2,11 +2,11 @@
 use Rattle.std.proofs.Common.{◌≡◌, ℕ, ◌+◌, ◌-◌, ◌*◌, ◌<◌, ◌≤◌, true, false, ltb, List, length, sym, ap, ◌∙◌, subst, ⊎_elim, arith}
 use Rattle.std.proofs.lemmas.List.{get_or_past}
 use Rattle.std.proofs.lemmas.Bool.{lt-ltb, le-ltb, cases_lt}
-use Rattle.rowmodel.specs.Meaning.{Meaning, used, table, is_used, limit_of, rows_of, row_at, Sound}
+use Rattle.rowmodel.specs.Meaning.{Meaning, used, table, is_used, limit_of, rows_of, row_at}
 use Rattle.bytestore.specs.declared.region.Region.{Region}
 use Rattle.bytestore.specs.declared.store.ByteStore.{ByteStore}
 use Rattle.bytestore.specs.Memory.{row_in}
-use Rattle.bytestore.specs.Region.{none, region, rows_from, byte_meaning, byte_sound}
+use Rattle.bytestore.specs.Region.{none, region, rows_from, byte_meaning}
 use Rattle.bytestore.proofs.Regions.{limit_is, some_limit, used_is, unused_is, row_is, length-rows, count_fits, row_small}
 
 abbrev pub bytes_of : ByteStore → List ℕ
@@ -21,15 +21,12 @@ region_of s t = region s.regions t
 abbrev pub meaning_of : ByteStore → Meaning
 meaning_of s = byte_meaning (bytes_of s) s.regions (free_of s)
 
-pub sound_of : (s : ByteStore) → Sound (meaning_of s)
-sound_of s = byte_sound (bytes_of s) s.regions (free_of s) s.long s.limited s.sized s.roomy
-
 module _ (s : ByteStore) (t : ℕ) where
   pub limit_at : limit_of (table (meaning_of s) t) ≡ (region_of s t).limit
   limit_at = limit_is (bytes_of s) s.regions (free_of s) t
 
   pub limit_small : (region_of s t).limit ≤ 255
-  limit_small = omega (arith, (s.limited t).1, limit_at)
+  limit_small = omega (arith, (s.sound.limited t).1, limit_at)
 
   -- a number is in use if its region has places
   pub some_at : is_used (table (meaning_of s) t) ≡ true → 0 < (region_of s t).limit
@@ -61,7 +58,7 @@ module _ (s : ByteStore) (t : ℕ) where
     rows_at = ap (λ x. length (rows_of x)) table_at ∙ length-rows (bytes_of s) (region_of s t).base (region_of s t).count
 
     pub count_at : (region_of s t).count ≤ (region_of s t).limit
-    count_at = count_fits (bytes_of s) s.regions (free_of s) (sound_of s) t some
+    count_at = count_fits (bytes_of s) s.regions (free_of s) s.sound t some
 
     pub place_at : (k : ℕ) → k < (region_of s t).count → ltb k (length (rows_of (table (meaning_of s) t))) ≡ true
     place_at k l = lt-ltb k (length (rows_of (table (meaning_of s) t))) (omega (arith, rows_at))
@@ -77,7 +74,7 @@ module _ (s : ByteStore) (t : ℕ) where
 
     -- the row at a place
     pub small_at : (k : ℕ) → k < (region_of s t).count → length (row_in (bytes_of s) ((region_of s t).base + k)) ≤ 240
-    small_at k = row_small (bytes_of s) s.regions (free_of s) (sound_of s) t k some
+    small_at k = row_small (bytes_of s) s.regions (free_of s) s.sound t k some
 
     pub row_fits : (k p : ℕ) → k < (region_of s t).count → p ≡ (region_of s t).base + k → (241 * (p + 1) ≤ length (bytes_of s)) × (length (row_in (bytes_of s) p) ≤ 240)
     row_fits k p l e = (omega (arith, e, place_fits k (omega (arith, count_at))), subst (λ q. length (row_in (bytes_of s) q) ≤ 240) (sym e) (small_at k l))

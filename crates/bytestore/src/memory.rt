@@ -15,7 +15,8 @@ pub(crate) struct Memory<'a> {
 impl Memory<'_> {
     /// The row at a place.
     pub(crate) fn row(&self, place: usize) -> &[u8]
-        requires { (241 * (place + 1) ≤ length self.now.bytes.now) × (length (row_in self.now.bytes.now place) ≤ 240) }
+        requires place { 241 * (place + 1) ≤ length self.now.bytes.now }
+        requires row { length (row_in self.now.bytes.now place) ≤ 240 }
         ensures { result.now ≡ row_in self.now.bytes.now place }
     {
         let start = PLACE_BYTES * place + 1;
@@ -25,7 +26,8 @@ impl Memory<'_> {
 
     /// Puts a row at a place.
     pub(crate) fn store(&mut self, place: usize, row: &[u8])
-        requires { (241 * (place + 1) ≤ length self.old.bytes.now) × (length row.now ≤ 240) }
+        requires place { 241 * (place + 1) ≤ length self.old.bytes.now }
+        requires row { length row.now ≤ 240 }
         ensures len { length self.new.bytes.now ≡ length self.old.bytes.now }
         ensures here { row_in self.new.bytes.now place ≡ row.now }
         ensures others { (q : ℕ) → q ≢ place → Alike self.new.bytes.now q self.old.bytes.now q }
@@ -37,17 +39,15 @@ impl Memory<'_> {
 
     /// Moves `n` places from place `from` on down to place `to`.
     pub(crate) fn move_down(&mut self, from: usize, to: usize, n: usize)
-        requires { (to ≤ from) × (241 * (from + n) ≤ length self.old.bytes.now) }
+        requires down { to ≤ from }
+        requires inside { 241 * (from + n) ≤ length self.old.bytes.now }
         ensures len { length self.new.bytes.now ≡ length self.old.bytes.now }
         ensures moved { (k : ℕ) → k < n → Alike self.new.bytes.now (to + k) self.old.bytes.now (from + k) }
         ensures below { (q : ℕ) → q < to → Alike self.new.bytes.now q self.old.bytes.now q }
         ensures above { (q : ℕ) → to + n ≤ q → Alike self.new.bytes.now q self.old.bytes.now q }
     {
-        let start = PLACE_BYTES * to;
-        let gap = PLACE_BYTES * (from - to);
-        let bytes = &mut *self.bytes;
-        for i in start..start + PLACE_BYTES * n {
-            bytes[i] = bytes[i + gap];
-        }
+        let start = PLACE_BYTES * from;
+        let end = start + PLACE_BYTES * n;
+        self.bytes.copy_within(start..end, PLACE_BYTES * to);
     }
 }

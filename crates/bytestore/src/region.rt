@@ -1,11 +1,11 @@
 ghost use Rattle.std.specs.Prelude.{◌≡◌, ◌+◌, map};
 ghost use Rattle.bytestore.specs.Region.{lowered};
 
-/// How many table numbers there are.
-pub(crate) const TABLES: usize = 16;
+use rowmodel::TABLES;
 
 /// Where a table lies: `limit` places from place `base` on, of which the first `count` hold rows.
 /// The limit of an unused number is 0.
+// Not `Option<Region>`: a limit of 0 says it already, and `Some` of a limit of 0 would have to be ruled out.
 #[derive(Clone, Copy)]
 pub(crate) struct Region {
     pub base: u16,
@@ -43,11 +43,8 @@ impl Region {
 }
 
 /// The regions once the places of `gone` are closed up.
-pub(crate) fn closed_up(mut regions: [Region; TABLES], gone: Region) -> [Region; TABLES]
+pub(crate) fn closed_up(regions: [Region; TABLES], gone: Region) -> [Region; TABLES]
     ensures { result ≡ map (lowered gone) regions }
 {
-    for i in 0..TABLES {
-        regions[i] = regions[i].lowered(gone);
-    }
-    regions
+    regions.map(|region| region.lowered(gone))
 }

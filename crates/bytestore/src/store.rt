@@ -1,15 +1,17 @@
 ghost use Rattle.std.specs.Prelude.{◌≡◌, ◌+◌, ◌-◌, ◌*◌, ◌/◌, ◌<◌, ◌≤◌, min, length, IfOk};
-ghost use Rattle.rowmodel.specs.Meaning.{empty, Limited, Sized, Roomy};
+ghost use Rattle.rowmodel.specs.Meaning.{Sound, empty};
 ghost use Rattle.rowmodel.specs.Needs.{answer, drop_unmet, row_unmet};
-ghost use Rattle.bytestore.specs.Region.{region, Within, Apart, byte_meaning, byte_sound};
+ghost use Rattle.bytestore.specs.Region.{region, Within, Apart, byte_meaning};
 
 use crate::memory::{Memory, PLACE_BYTES};
-use crate::region::{Region, TABLES, UNUSED, closed_up};
-use rowmodel::{MOST_LIMIT, MOST_ROWS, StoreFault, TableSize, check_row};
+use crate::region::{Region, UNUSED, closed_up};
+use rowmodel::{MOST_ROWS, StoreFault, TABLES, TableSize, check_row};
 use rowstore::RowStore;
 
 /// Tables of rows in lent bytes. Each number has its region of places, and no place is in two regions. Dropping a
 /// table closes up its places, so that the free places are always those at the end.
+// It has no model: the law of the trait says of each value that its meaning is sound, and a model's value would be any
+// meaning at all.
 #[derive(Drop)]
 pub struct ByteStore<'a> {
     memory: Memory<'a>,
@@ -23,9 +25,7 @@ pub struct ByteStore<'a> {
     ghost fits: { (241 * places ≤ length memory.bytes.now) × (top ≤ places) },
     ghost within: { Within top regions },
     ghost apart: { Apart regions },
-    ghost limited: { Limited (byte_meaning memory.bytes.now regions (places - top)) },
-    ghost sized: { Sized (byte_meaning memory.bytes.now regions (places - top)) },
-    ghost roomy: { Roomy (byte_meaning memory.bytes.now regions (places - top)) },
+    ghost sound: { Sound (byte_meaning memory.bytes.now regions (places - top)) },
 }
 
 impl<'a> ByteStore<'a> {
@@ -43,6 +43,7 @@ impl<'a> ByteStore<'a> {
     }
 
     /// The region of a number in use.
+    // Each store asks its own memory: all that the two could share is the comparison.
     fn used_region(&self, number: u8) -> Result<Region, StoreFault>
         ensures result { result ≡ answer (drop_unmet (byte_meaning self.now.memory.bytes.now self.now.regions (self.now.places - self.now.top)) number) (region self.now.regions number) }
         ensures found { IfOk result (λ x. (x ≡ region self.now.regions number) × (number < 16) × (0 < (region self.now.regions number).limit)) }
@@ -70,20 +71,18 @@ impl<'a> ByteStore<'a> {
 impl RowStore for ByteStore<'_> {
     ghost meaning = { λ s. byte_meaning s.memory.bytes.now s.regions (s.places - s.top) };
 
-    ghost sound = { λ s. byte_sound s.memory.bytes.now s.regions (s.places - s.top) s.long s.limited s.sized s.roomy };
+    ghost sound = { λ s. s.sound };
 
     fn free_rows(&self) -> usize {
         (self.places - self.top) as usize
     }
 
     fn table_size(&self, number: u8) -> Option<TableSize> {
-        match self.used_region(number) {
-            Ok(region) => Some(TableSize {
-                limit: region.limit as u8,
-                rows: region.count as u8,
-            }),
-            Err(_) => None,
-        }
+        let region = self.used_region(number).ok()?;
+        Some(TableSize {
+            limit: region.limit as u8,
+            rows: region.count as u8,
+        })
     }
 
     fn row(&self, number: u8, place: usize) -> Result<&[u8], StoreFault> {
@@ -91,19 +90,10 @@ impl RowStore for ByteStore<'_> {
     }
 
     fn make_table(&mut self, number: u8, limit: usize) -> Result<(), StoreFault> {
-        let at = number as usize;
-        if at >= TABLES || self.regions[at].limit != 0 {
-            return Err(StoreFault::Unavailable);
-        }
-        if limit == 0 || limit > MOST_LIMIT {
-            return Err(StoreFault::Limit);
-        }
-        if limit > self.free_rows() {
-            return Err(StoreFault::Space);
-        }
+        self.check_make(number, limit)?;
         let base = self.top;
         let limit = limit as u16;
-        self.regions[at] = Region {
+        self.regions[number as usize] = Region {
             base,
             limit,
             count: 0,

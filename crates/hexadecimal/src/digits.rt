@@ -9,16 +9,12 @@ fn digit(c: u8) -> Option<u8>
     ensures value { result ≡ value c }
     ensures small { unwrap_or result 0 < 16 }
 {
-    if c >= b'0' && c <= b'9' {
-        return Some(c - b'0');
+    match c {
+        b'0'..=b'9' => Some(c - b'0'),
+        b'A'..=b'F' => Some(c - b'A' + 10),
+        b'a'..=b'f' => Some(c - b'a' + 10),
+        _ => None,
     }
-    if c >= b'A' && c <= b'F' {
-        return Some(c - b'A' + 10);
-    }
-    if c >= b'a' && c <= b'f' {
-        return Some(c - b'a' + 10);
-    }
-    None
 }
 
 /// The bytes that a text says, two digits to a byte, with blanks anywhere; nothing where it has another character
@@ -28,11 +24,11 @@ pub fn decode(heap: Global, text: &[u8]) -> Result<Option<Vec<u8>>, AllocError>
 {
     let mut bytes = Vec::new(heap);
     let mut high: Option<u8> = None;
-    for c in text {
-        if *c == b' ' || *c == b'\t' {
+    for &c in text {
+        if c == b' ' || c == b'\t' {
             continue;
         }
-        let Some(low) = digit(*c) else {
+        let Some(low) = digit(c) else {
             return Ok(None);
         };
         match high {

@@ -11,6 +11,9 @@ use std::fmt;
 /// The most bytes that a row has.
 pub const ROW_BYTES: usize = 240;
 
+/// How many table numbers there are.
+pub const TABLES: usize = 16;
+
 /// The most rows that a table can be made for.
 pub const MOST_LIMIT: usize = 255;
 
@@ -56,6 +59,7 @@ impl StoreFault {
     }
 }
 
+// Written by hand: the derive of thiserror promises no words, and these ghost members say what is written.
 impl fmt::Display for StoreFault {
     ghost output = { λ x. Some (in_words x) };
 
@@ -77,7 +81,7 @@ pub struct TableSize {
 pub fn check_row(row: &[u8]) -> Result<(), StoreFault>
     ensures { result ≡ answer (unmet (allowed_row row.now)) tt }
 {
-    if row.len() == 0 || row.len() > ROW_BYTES {
+    if row.is_empty() || row.len() > ROW_BYTES {
         return Err(StoreFault::Length);
     }
     Ok(())

@@ -2,9 +2,8 @@
 use Rattle.std.proofs.Common.{◌≡◌, ℕ, ◌+◌, ◌<◌, Bool, ◌&&◌, List, [], ◌∷◌, ◌++◌, map, length, get_or, take, Decides, sym, refl, ap, ◌∙◌}
 use Rattle.std.proofs.lemmas.List.{map_more, same_from_push}
 use Rattle.std.proofs.lemmas.Bool.{and_parts, and_from}
-use Rattle.rowstore.specs.declared.call.Answer.{Answer}
 use Rattle.rowstore.specs.declared.call.Call.{Call}
-use Rattle.rowstore.specs.Runs.{Request, request, Held, after, Reply, reply, run, replies}
+use Rattle.rowstore.specs.Runs.{Request, request, Held, after, reply, run, replies}
 
 pub run_push : (h : Held) (qs : List Request) (q : Request) → run h (qs ++ (q ∷ [])) ≡ after (run h qs) q
 run_push h [] q = refl
@@ -32,12 +31,4 @@ pub same_push : {X : Type 0} (xs ys : List X) (x y : X) (b c : Bool) → Decides
 same_push xs ys x y b c p q = (
   λ t. let both = and_parts b c t in ap (λ zs. zs ++ (x ∷ [])) (p.0 both.0) ∙ ap (λ z. ys ++ (z ∷ [])) (q.0 both.1),
   λ e. let parts = same_from_push xs ys x y e in and_from b c (p.1 parts.0) (q.1 parts.1),
-)
-
--- two replies are the same if their answers and areas are
-pub same_parts : (r s : Reply) (a b : Answer) (x y : List ℕ) (t : Bool) → a ≡ r.answer → b ≡ s.answer → x ≡ r.area → y ≡ s.area →
-    Decides t ((a ≡ b) × (x ≡ y)) → Decides t (r ≡ s)
-same_parts r s a b x y t e f u v d = (
-  λ h. let p = d.0 h in ap (λ z. record { answer = z; area = r.area }) (sym e ∙ p.0 ∙ f) ∙ ap (λ z. record { answer = s.answer; area = z }) (sym u ∙ p.1 ∙ v),
-  λ h. d.1 (e ∙ ap (λ z. z.answer) h ∙ sym f, u ∙ ap (λ z. z.area) h ∙ sym v),
 )

@@ -1,2 +1,4 @@
 pub mod Runs
 pub mod Added
+pub mod Both
+pub mod Session

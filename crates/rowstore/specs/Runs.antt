@@ -1,13 +1,13 @@
 -- Lists of calls: what they answer, and what they leave.
-use Rattle.std.specs.Prelude.{◌≡◌, ℕ, Bool, true, List, [], ◌∷◌, length, Some, None, Option}
+use Rattle.std.specs.Prelude.{◌≡◌, ℕ, Bool, true, List, [], ◌∷◌, length, Ok, Result}
 use Rattle.rowmodel.specs.declared.StoreFault.{StoreFault}
 use Rattle.rowmodel.specs.Meaning.{Meaning, table, row_at}
-use Rattle.rowmodel.specs.Needs.{make_unmet, drop_unmet, append_unmet, replace_unmet, remove_unmet, copy_unmet}
+use Rattle.rowmodel.specs.Needs.{answer, make_unmet, drop_unmet, append_unmet, replace_unmet, remove_unmet, copy_unmet}
 use Rattle.rowmodel.specs.Calls.{after_make, after_drop, after_append, after_replace, after_remove, after_copy, size_of}
 use Rattle.rowstore.specs.declared.call.Call.{Call}
 use Rattle.rowstore.specs.declared.call.Call.TheVariants as call
 use Rattle.rowstore.specs.declared.call.Answer.{Answer}
-use Rattle.rowstore.specs.declared.call.Answer.TheVariants.{Done, Refused, Copied, Size, Free}
+use Rattle.rowstore.specs.declared.call.Answer.TheVariants.{Done, Copied, Size, Free}
 
 -- what a call asks: its rows by their bytes, wherever those lie
 pub data Request : Type 0 where
@@ -38,21 +38,16 @@ pub record Held : Type 0 where
 abbrev pub held : Meaning → List ℕ → Held
 held m area = record { store = m; area = area }
 
--- a refusal in the place of an answer, where a need is unmet
-abbrev pub ended : Option StoreFault → Answer → Answer
-ended None a = a
-ended (Some f) a = Refused f
-
 -- what one call answers
-abbrev pub answered : Held → Request → Answer
-answered h (make t limit) = ended (make_unmet h.store t limit) Done
-answered h (discard t) = ended (drop_unmet h.store t) Done
-answered h (append t row) = ended (append_unmet h.store t row) Done
-answered h (replace t k row) = ended (replace_unmet h.store t k row) Done
-answered h (remove t k) = ended (remove_unmet h.store t k) Done
-answered h (copy t k) = ended (copy_unmet h.store t k (length h.area)) (Copied (length (row_at h.store t k)))
-answered h (size t) = Size (size_of (table h.store t))
-answered h free = Free h.store.free
+abbrev pub answered : Held → Request → Result Answer StoreFault
+answered h (make t limit) = answer (make_unmet h.store t limit) Done
+answered h (discard t) = answer (drop_unmet h.store t) Done
+answered h (append t row) = answer (append_unmet h.store t row) Done
+answered h (replace t k row) = answer (replace_unmet h.store t k row) Done
+answered h (remove t k) = answer (remove_unmet h.store t k) Done
+answered h (copy t k) = answer (copy_unmet h.store t k (length h.area)) (Copied (length (row_at h.store t k)))
+answered h (size t) = Ok (Size (size_of (table h.store t)))
+answered h free = Ok (Free h.store.free)
 
 -- what one call leaves: of the store, and of the area
 abbrev pub stored : Meaning → Request → Meaning
@@ -80,7 +75,7 @@ after h q = record { store = stored h.store q; area = written h q }
 
 -- what is received for one call: the answer, and the area as it then is
 pub record Reply : Type 0 where
-  pub answer : Answer
+  pub answer : Result Answer StoreFault
   pub area : List ℕ
 
 abbrev pub reply : Held → Request → Reply

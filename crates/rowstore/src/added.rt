@@ -11,10 +11,8 @@ use rowmodel::StoreFault;
 pub fn last_row<S: RowStore>(store: &S, number: u8) -> Result<&[u8], StoreFault>
     ensures { lent result ≡ answer (row_unmet (S.meaning store.now) number (length (rows_of (table (S.meaning store.now) number)) - 1)) (row_at (S.meaning store.now) number (length (rows_of (table (S.meaning store.now) number)) - 1)) }
 {
-    let Some(size) = store.table_size(number) else {
-        return Err(StoreFault::Unused);
-    };
-    store.row(number, (size.rows as usize).saturating_sub(1))
+    let size = store.table_size(number).ok_or(StoreFault::Unused)?;
+    store.row(number, usize::from(size.rows).saturating_sub(1))
 }
 
 /// Adds a row at the end, and tells whether it is then the last row: it always is, and every other row of every

@@ -1,7 +1,7 @@
 use rowmodel::{StoreFault, TableSize};
 
 /// A call of a row store, as a value.
-#[derive(Clone, Copy)]
+#[derive(Clone, Copy, PartialEq, Eq, Debug)]
 pub enum Call<'a> {
     Make {
         number: u8,
@@ -33,12 +33,11 @@ pub enum Call<'a> {
     Free,
 }
 
-/// What a call answers.
-#[derive(Clone, Copy, PartialEq)]
+/// What an accepted call answers.
+#[derive(Clone, Copy, PartialEq, Eq, Debug)]
 pub enum Answer {
-    /// The call was accepted.
+    /// The call gives nothing back.
     Done,
-    Refused(StoreFault),
     /// The length of the row that was copied to the area.
     Copied(usize),
     /// The size of a table, or nothing where the number is unused.
@@ -47,10 +46,14 @@ pub enum Answer {
     Free(usize),
 }
 
-/// What two stores answer to one call, and whether their replies were the same: answers and areas.
-#[derive(Clone, Copy)]
-pub struct Both {
-    pub left: Answer,
-    pub right: Answer,
-    pub same: bool,
+/// What two stores answer to one call.
+#[derive(Clone, Copy, PartialEq, Eq, Debug)]
+pub enum Both {
+    /// Their replies were the same, in the answer and in the area.
+    Same(Result<Answer, StoreFault>),
+    /// They were not.
+    Differ {
+        left: Result<Answer, StoreFault>,
+        right: Result<Answer, StoreFault>,
+    },
 }

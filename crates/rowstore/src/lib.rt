@@ -5,9 +5,11 @@
 mod added;
 mod call;
 mod runs;
+mod session;
 mod store;
 
 pub use added::{append_and_look, last_row};
 pub use call::{Answer, Both, Call};
-pub use runs::{perform, perform_both, same_replies};
+pub use runs::{perform_both, same_replies};
+pub use session::Session;
 pub use store::RowStore;

@@ -1,9 +1,9 @@
-ghost use Rattle.std.specs.Prelude.{◌≡◌, length};
+ghost use Rattle.std.specs.Prelude.{◌≡◌, ◌<◌, ◌≤◌, length, OnOk};
 ghost use Rattle.rowmodel.specs.Meaning.{Meaning, Sound, table, row_at};
 ghost use Rattle.rowmodel.specs.Needs.{answer, make_unmet, drop_unmet, append_unmet, replace_unmet, remove_unmet, row_unmet, copy_unmet};
 ghost use Rattle.rowmodel.specs.Calls.{after_make, after_drop, after_append, after_replace, after_remove, after_copy, size_of, lent};
 
-use rowmodel::{StoreFault, TableSize};
+use rowmodel::{MOST_LIMIT, StoreFault, TABLES, TableSize};
 
 /// Tables of rows, known by their meaning: for each number from 0 to 15 unused, or a limit and a list of rows; and
 /// the number of free rows. A call is refused exactly if one of its needs is unmet: it names the first one, and
@@ -49,6 +49,23 @@ pub trait RowStore {
     fn remove(&mut self, number: u8, place: usize) -> Result<(), StoreFault>
         ensures result { result ≡ answer (remove_unmet (meaning self.old) number place) tt }
         ensures after { meaning self.new ≡ after_remove (meaning self.old) number place };
+
+    /// Whether an empty table can be made.
+    fn check_make(&self, number: u8, limit: usize) -> Result<(), StoreFault>
+        ensures result { result ≡ answer (make_unmet (meaning self.now) number limit) tt }
+        ensures fits { OnOk result ((number < 16) × (limit ≤ 255) × (limit ≤ (meaning self.now).free)) }
+    {
+        if usize::from(number) >= TABLES || self.table_size(number).is_some() {
+            return Err(StoreFault::Unavailable);
+        }
+        if limit == 0 || limit > MOST_LIMIT {
+            return Err(StoreFault::Limit);
+        }
+        if limit > self.free_rows() {
+            return Err(StoreFault::Space);
+        }
+        Ok(())
+    }
 
     /// Copies a row to the front of an area and tells its length.
     fn copy(&self, number: u8, place: usize, area: &mut [u8]) -> Result<usize, StoreFault>

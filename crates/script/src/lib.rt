@@ -12,11 +12,7 @@ use std::{fmt, io};
 
 /// All lines of a script.
 pub fn read_lines<R: Read + Drop>(heap: Global, input: R) -> io::Result<Vec<String>> {
-    let mut lines = Vec::new(heap);
-    for line in BufReader::new(heap, input)?.lines(heap) {
-        lines.push(line?)?;
-    }
-    Ok(lines)
+    BufReader::new(heap, input)?.lines(heap).try_collect(heap)
 }
 
 /// A line without its comment, which begins with `#`.
@@ -35,10 +31,7 @@ pub fn number<N: FromStr>(word: Option<&str>) -> Option<N>
 where
     N::Err: Drop,
 {
-    match word?.parse::<N>() {
-        Ok(n) => Some(n),
-        Err(_) => None,
-    }
+    word?.parse().ok()
 }
 
 /// The message for a line that cannot be played; `at` counts from 0, the message from 1.

@@ -1,6 +1,6 @@
 -- What a store's ghost fields say of its chains.
 use Rattle.std.proofs.Common.{◌≡◌, ℕ, ◌+◌, ◌<◌, ◌≤◌, ◌≢◌, [], length, get_or, refl, ap, ◌∙◌, subst, arith}
-use Rattle.rowmodel.specs.Meaning.{unused, Meaning, Sound, table, limit_of, rows_of, row_at}
+use Rattle.rowmodel.specs.Meaning.{unused, Meaning, table, limit_of, rows_of, row_at}
 use Rattle.rowmodel.proofs.Tables.{limits_set}
 use Rattle.slotstore.specs.declared.store.SlotStore.{SlotStore}
 use Rattle.slotstore.specs.Slot.{links}
@@ -11,9 +11,6 @@ use Rattle.slotstore.proofs.Tables.{used_here, length-along, row_is}
 abbrev pub meaning_of : SlotStore → Meaning
 meaning_of s = slot_meaning s.memory.slots.now s.chains
 
-pub sound_of : (s : SlotStore) → Sound (meaning_of s)
-sound_of s = record { sixteen = refl; limited = s.limited; sized = s.sized; roomy = s.roomy }
-
 module _ (s : SlotStore) (t : ℕ) where
   -- the chain of a table
   pub in_use : t < 16 → 0 < (chain_at s.chains t).size → InUse s.chains t
@@ -22,8 +19,8 @@ module _ (s : SlotStore) (t : ℕ) where
       record {
         below = l;
         some = some;
-        small = subst (λ x. limit_of x ≤ 255) e (s.limited t).1;
-        few = omega (arith, length-along s.memory.slots.now s.chains t, subst (λ x. length (rows_of x) ≤ limit_of x) e (s.limited t).2);
+        small = subst (λ x. limit_of x ≤ 255) e (s.sound.limited t).1;
+        few = omega (arith, length-along s.memory.slots.now s.chains t, subst (λ x. length (rows_of x) ≤ limit_of x) e (s.sound.limited t).2);
       }
 
   -- its limit and its number of rows
@@ -36,7 +33,7 @@ module _ (s : SlotStore) (t : ℕ) where
   -- its size and the free slots together are a number of 16 bits
   pub roomy_with : InUse s.chains t → (chain_at s.chains 16).size + (chain_at s.chains t).size ≤ 65535
   roomy_with u =
-      omega (arith, s.roomy, limits_set (meaning_of s).tables t unused u.below, limit_is u)
+      omega (arith, s.sound.roomy, limits_set (meaning_of s).tables t unused u.below, limit_is u)
 
   -- slots at two places differ
   pub differ : (k u j : ℕ) → k < (chain_at s.chains t).size → j < (chain_at s.chains u).size → (t ≡ u → k ≡ j → ⊥) →

@@ -1,6 +1,6 @@
 -- How a call keeps the ghost fields.
 use Rattle.std.proofs.Common.{◌≡◌, ℕ, ◌<◌, List, [], length, get_or, sym, ap, ◌∙◌, subst, arith}
-use Rattle.rowmodel.specs.Meaning.{Meaning, Limited, Sized, Roomy, Sound}
+use Rattle.rowmodel.specs.Meaning.{Meaning, Sound}
 use Rattle.slotstore.specs.declared.slot.Slot.{Slot}
 use Rattle.slotstore.specs.declared.chain.Chain.{Chain}
 use Rattle.slotstore.specs.declared.store.SlotStore.{SlotStore}
@@ -14,7 +14,7 @@ use Rattle.slotstore.proofs.Moves.{Moved, stood, moved_within, moved_apart}
 -- the ghost fields of slots and chains, by name
 abbrev pub Ghosts : List Slot → List Chain → Type 0
 Ghosts ss cs =
-    record { long : length cs ≡ 17; within : Within (length ss) (links ss) cs; apart : Apart (links ss) cs; limited : Limited (slot_meaning ss cs); sized : Sized (slot_meaning ss cs); roomy : Roomy (slot_meaning ss cs) }
+    record { long : length cs ≡ 17; within : Within (length ss) (links ss) cs; apart : Apart (links ss) cs; sound : Sound (slot_meaning ss cs) }
 
 -- the slots keep their number, each place was one before, and what the slots and chains mean is sound
 pub keeps : (s : SlotStore) (ss : List Slot) (cs : List Chain) (m : Meaning) →
@@ -26,9 +26,7 @@ keeps s ss cs m chains slots moved e sound =
       long = chains ∙ s.long;
       within = subst (λ n. Within n (links ss) cs) (sym slots) (moved_within ls (links ss) s.chains cs moved (length s.memory.slots.now) s.within);
       apart = moved_apart ls (links ss) s.chains cs moved s.apart;
-      limited = subst Limited (sym e) sound.limited;
-      sized = subst Sized (sym e) sound.sized;
-      roomy = subst Roomy (sym e) sound.roomy;
+      sound = subst Sound (sym e) sound;
     }
 
 -- the rows lie where they lay

@@ -18,7 +18,7 @@ use Rattle.slotstore.specs.Chain.{chain_at, spot, InUse}
 use Rattle.slotstore.specs.Store.{row_along, rows_along, slot_meaning}
 use Rattle.slotstore.proofs.Tables.{used_here, length-along, row_is}
 use Rattle.slotstore.proofs.Moves.{link_between}
-use Rattle.slotstore.proofs.Bounds.{meaning_of, sound_of}
+use Rattle.slotstore.proofs.Bounds.{meaning_of}
 use Rattle.slotstore.proofs.Keeps.{Ghosts, keeps}
 use Rattle.slotstore.proofs.Turns.{turned, turn_moved, turn_meaning}
 
@@ -69,7 +69,7 @@ module _ (s : SlotStore) (t k : ℕ) (used : InUse s.chains t) (place : k < (cha
   remove_keeps long o =
       keeps s ss' shorter (removed (meaning_of s) t k) (length-set s.chains t _) long
       (turn_moved s t used (behind k n) (behind_inside k n (chain_at s.chains t).size place used.few) (behind_once k n place) ss' head (n - 1) filled starts steps others)
-      remove_meaning (sound_removed (meaning_of s) t k (sound_of s) o)
+      remove_meaning (sound_removed (meaning_of s) t k s.sound o)
 
 -- the last row is behind the others already
 module _ (s : SlotStore) (t k : ℕ) (last : k + 1 ≡ (chain_at s.chains t).count) where

@@ -16,7 +16,7 @@ use Rattle.slotstore.specs.Chain.{follow, chain_at, spot, InUse}
 use Rattle.slotstore.specs.Store.{row_along, slot_meaning}
 use Rattle.slotstore.proofs.Tables.{Kept, used_here, listed_by}
 use Rattle.slotstore.proofs.Moves.{field_kept, stayed}
-use Rattle.slotstore.proofs.Bounds.{meaning_of, sound_of, in_use, differ, spot_within}
+use Rattle.slotstore.proofs.Bounds.{meaning_of, in_use, differ, spot_within}
 use Rattle.slotstore.proofs.Keeps.{Ghosts, keeps}
 
 module _ (s : SlotStore) (t k : ℕ) (row : List ℕ) (ss' : List Slot) (cs' : List Chain)
@@ -96,7 +96,7 @@ module _ (s : SlotStore) (t : ℕ) (row : List ℕ) (ss' : List Slot) (used : In
   append_keeps long o =
       keeps s ss' (set s.chains t grown) (appended (meaning_of s) t row) (length-set s.chains t grown) long
       (stayed (links s.memory.slots.now) (links ss') s.chains (set s.chains t grown) linked heads sizes) append_meaning
-      (sound_appended (meaning_of s) t row (sound_of s) o)
+      (sound_appended (meaning_of s) t row s.sound o)
 
 -- after a replacement they are the same
 module _ (s : SlotStore) (t k : ℕ) (row : List ℕ) (ss' : List Slot) (used : InUse s.chains t) (place : k < (chain_at s.chains t).count)
@@ -109,4 +109,4 @@ module _ (s : SlotStore) (t k : ℕ) (row : List ℕ) (ss' : List Slot) (used : 
   replace_keeps long o =
       keeps s ss' s.chains (replaced (meaning_of s) t k row) refl long
       (stayed (links s.memory.slots.now) (links ss') s.chains s.chains linked (λ u. refl) (λ u. refl)) replace_meaning
-      (sound_replaced (meaning_of s) t k row (sound_of s) o)
+      (sound_replaced (meaning_of s) t k row s.sound o)

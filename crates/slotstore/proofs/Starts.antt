@@ -1,6 +1,6 @@
 -- A store at its start: one chain, of the free slots.
-use Rattle.std.proofs.Common.{◌≡◌, ℕ, zero, suc, ◌+◌, ◌<◌, ◌≤◌, cond, eqb, List, length, get_or, set, replicate, sym, refl, ap, ◌∙◌, subst, ⊎_elim, add-one, arith}
-use Rattle.std.proofs.lemmas.List.{get_or_past, get_or-set_same, get_or-set_other, get_or-replicate, map-set, length-map}
+use Rattle.std.proofs.Common.{◌≡◌, ℕ, zero, suc, ◌+◌, ◌<◌, ◌≤◌, cond, eqb, List, ◌++◌, length, get_or, set, replicate, sym, refl, ap, ◌∙◌, subst, ⊎_elim, add-one, arith}
+use Rattle.std.proofs.lemmas.List.{get_or_past, get_or_append_left, map-append, get_or-set_same, get_or-set_other, get_or-replicate, map-set, length-map}
 use Rattle.std.proofs.lemmas.Bool.{cases_eq, cases_lt}
 use Rattle.std.proofs.lemmas.Bool.Decides.{nat_tests}
 use Rattle.slotstore.specs.declared.slot.Slot.{Slot}
@@ -18,6 +18,12 @@ linked_more ss i s l e inv k lk =
     (λ same. ap (λ j. get_or (set (links ss) i s.next) j 0) same ∙ get_or-set_same (links ss) i s.next 0 (subst (λ m. i < m) (sym (length-map ss link)) l) ∙ e ∙ ap (λ j. j + 1) (sym same))
     (λ ne. get_or-set_other (links ss) i k s.next 0 ne ∙ inv k (omega arith))
     (cases_eq k i)
+
+-- more slots behind them leave them linked
+pub linked_front : (front rest : List Slot) (n : ℕ) → n ≤ length front → ((k : ℕ) → k < n → get_or (links front) k 0 ≡ k + 1) →
+    (k : ℕ) → k < n → get_or (links (front ++ rest)) k 0 ≡ k + 1
+linked_front front rest n l inv k lk =
+    ap (λ ls. get_or ls k 0) (map-append link front rest) ∙ get_or_append_left (links front) (links rest) 0 k (omega (arith, length-map front link)) ∙ inv k lk
 
 abbrev no_chain : Chain
 no_chain = record { head = 0; size = 0; count = 0 }

@@ -5,6 +5,7 @@ ghost use Rattle.slotstore.specs.Chain.{follow};
 use crate::slot::{Row, Slot};
 
 /// The lent slots.
+// It has no model: the lemmas go slot by slot, and would say `contents` and `links` of its value as often.
 #[derive(Drop)]
 pub(crate) struct Memory<'a> {
     pub(crate) slots: &'a mut [Slot],
@@ -42,7 +43,8 @@ impl Memory<'_> {
 
     /// Puts a row into a slot.
     pub(crate) fn write(&mut self, slot: u16, row: &[u8])
-        requires { (slot < length self.old.slots.now) × (length row.now ≤ 240) }
+        requires slot { slot < length self.old.slots.now }
+        requires row { length row.now ≤ 240 }
         ensures long { length self.new.slots.now ≡ length self.old.slots.now }
         ensures linked { links self.new.slots.now ≡ links self.old.slots.now }
         ensures filled { contents self.new.slots.now ≡ slice_set (contents self.old.slots.now) slot row.now }

@@ -3,6 +3,7 @@ ghost use Rattle.std.specs.Prelude.{◌≡◌, ◌≤◌, [], length, take};
 use rowmodel::ROW_BYTES;
 
 /// One row.
+// It has no model: a row is copied, so that a model would have to give back the bytes past the row too.
 #[derive(Clone, Copy)]
 pub(crate) struct Row {
     len: u8,

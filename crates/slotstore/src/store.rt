@@ -1,5 +1,5 @@
-ghost use Rattle.std.specs.Prelude.{◌≡◌, ◌<◌, ◌≤◌, min, length, IfOk, OnOk, refl};
-ghost use Rattle.rowmodel.specs.Meaning.{Limited, Sized, Roomy, empty};
+ghost use Rattle.std.specs.Prelude.{◌≡◌, ◌<◌, ◌≤◌, min, length, IfOk, OnOk};
+ghost use Rattle.rowmodel.specs.Meaning.{Sound, empty};
 ghost use Rattle.rowmodel.specs.Needs.{answer, drop_unmet, row_unmet};
 ghost use Rattle.slotstore.specs.Slot.{links};
 ghost use Rattle.slotstore.specs.Chain.{chain_at, spot, InUse, Within, Apart};
@@ -8,7 +8,7 @@ ghost use Rattle.slotstore.specs.Store.{slot_meaning};
 use crate::chain::Chain;
 use crate::memory::Memory;
 use crate::slot::Slot;
-use rowmodel::{MOST_LIMIT, MOST_ROWS, StoreFault, TableSize, check_row};
+use rowmodel::{MOST_ROWS, StoreFault, TableSize, check_row};
 use rowstore::RowStore;
 
 /// One chain for each table number, and one for the slots that no table has.
@@ -18,6 +18,8 @@ const CHAINS: usize = 17;
 const FREE: usize = 16;
 
 /// Sixteen tables in linked slots.
+// It has no model: the law of the trait says of each value that its meaning is sound, and a model's value would be any
+// meaning at all.
 #[derive(Drop)]
 pub struct SlotStore<'a> {
     memory: Memory<'a>,
@@ -25,9 +27,7 @@ pub struct SlotStore<'a> {
     ghost long: { length chains ≡ 17 },
     ghost within: { Within (length memory.slots.now) (links memory.slots.now) chains },
     ghost apart: { Apart (links memory.slots.now) chains },
-    ghost limited: { Limited (slot_meaning memory.slots.now chains) },
-    ghost sized: { Sized (slot_meaning memory.slots.now chains) },
-    ghost roomy: { Roomy (slot_meaning memory.slots.now chains) },
+    ghost sound: { Sound (slot_meaning memory.slots.now chains) },
 }
 
 impl<'a> SlotStore<'a> {
@@ -36,8 +36,8 @@ impl<'a> SlotStore<'a> {
         ensures { slot_meaning result.memory.slots.now result.chains ≡ empty (min (length slots.old) 65535) }
     {
         let n = slots.len().min(MOST_ROWS);
-        for i in 0..n {
-            slots[i].next = (i + 1) as u16;
+        for (i, slot) in slots[..n].iter_mut().enumerate() {
+            slot.next = (i + 1) as u16;
         }
         let mut chains = [Chain::NONE; CHAINS];
         chains[FREE].size = n as u16;
@@ -51,7 +51,8 @@ impl<'a> SlotStore<'a> {
 impl SlotStore<'_> {
     // The slot at place `k` of a chain; at the chain's end, the slot that its last one links to.
     fn reach(&self, chain: usize, k: u16) -> u16
-        requires { (chain < 17) × (k ≤ (chain_at self.now.chains chain).size) }
+        requires chain { chain < 17 }
+        requires place { k ≤ (chain_at self.now.chains chain).size }
         ensures result { result ≡ spot (links self.now.memory.slots.now) self.now.chains chain k }
         ensures inside { k < (chain_at self.now.chains chain).size → result < length self.now.memory.slots.now }
     {
@@ -59,7 +60,7 @@ impl SlotStore<'_> {
         self.memory.walk(head, k)
     }
 
-    // Whether a number is in use.
+    // Whether a number is in use. Each store asks its own memory: all that the two could share is the comparison.
     fn check_used(&self, number: u8) -> Result<(), StoreFault>
         ensures result { result ≡ answer (drop_unmet (slot_meaning self.now.memory.slots.now self.now.chains) number) tt }
         ensures found { OnOk result (InUse self.now.chains number) }
@@ -88,7 +89,7 @@ impl SlotStore<'_> {
 impl RowStore for SlotStore<'_> {
     ghost meaning = { λ s. slot_meaning s.memory.slots.now s.chains };
 
-    ghost sound = { λ s. record { sixteen = refl; limited = s.limited; sized = s.sized; roomy = s.roomy } };
+    ghost sound = { λ s. s.sound };
 
     fn free_rows(&self) -> usize {
         self.chains[FREE].size as usize
@@ -110,17 +111,9 @@ impl RowStore for SlotStore<'_> {
     }
 
     fn make_table(&mut self, number: u8, limit: usize) -> Result<(), StoreFault> {
+        self.check_make(number, limit)?;
         let at = number as usize;
-        if at >= FREE || self.chains[at].size != 0 {
-            return Err(StoreFault::Unavailable);
-        }
-        if limit == 0 || limit > MOST_LIMIT {
-            return Err(StoreFault::Limit);
-        }
         let free = self.chains[FREE];
-        if limit > free.size as usize {
-            return Err(StoreFault::Space);
-        }
         let size = limit as u16;
         let rest = self.reach(FREE, size);
         self.chains[at] = Chain {

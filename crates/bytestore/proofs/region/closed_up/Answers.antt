@@ -1,24 +1,7 @@
-use Rattle.std.proofs.Common.{◌++◌, map, get_or, take, set, ap, ◌∙◌, arith}
-use Rattle.std.proofs.lemmas.List.{length-set, take_all, drop_all, append-nil, get_or_default}
-use Rattle.std.proofs.lemmas.List.Edits.{map_over_more}
+use Rattle.std.proofs.Common.{rules}
 use Rattle.bytestore.specs.Region.{none, lowered}
+use Rattle.bytestore.proofs.Maps.{maps_all}
 use Rattle.bytestore.proofs.region.closed_up.Goals as goal
 
-pub loop-i-preserved : goal.loop-i-preserved
-loop-i-preserved c =
-    let ys = c.loop-i.regions in
-    let i = c.loop-i.i in (
-      length-set ys i c.lowered.result ∙ c.loop-i.invariant.0,
-      c.loop-i.invariant.1,
-      ap (set ys i) c.lowered.ensures
-          ∙ map_over_more (lowered c.args.gone) c.args.regions ys i (get_or ys i none) (omega (arith, c.loop-i.invariant.1)) c.loop-i.invariant.2 (get_or_default ys i none (get_or ys i none) (omega (arith, c.loop-i.invariant.0))),
-    )
-
 pub returns : goal.returns
-returns c =
-    let xs = c.args.regions in
-    let i = c.loop-i.i in
-    c.loop-i.invariant.2
-    ∙ ap (λ zs. map (lowered c.args.gone) (take i xs) ++ zs) (drop_all i xs (omega (arith, c.loop-i.invariant.1)))
-    ∙ append-nil (map (lowered c.args.gone) (take i xs))
-    ∙ ap (map (lowered c.args.gone)) (take_all i xs (omega (arith, c.loop-i.invariant.1)))
+returns c = maps_all _ (lowered c.args.gone) _ (λ x y q w. search rules) c.args.regions c.map.result 16 none (search rules) c.map.ensures.items

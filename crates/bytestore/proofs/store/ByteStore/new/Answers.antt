@@ -12,13 +12,10 @@ none_covers t p h =
 
 pub invariant_of-result : goal.invariant_of-result
 invariant_of-result c =
-    let sound = sound_empty (c.min-places.result - 0) (omega arith) in
     record {
       long = refl;
       fits = (omega arith, omega arith);
       within = λ t p h. absurd (none_covers t p h);
       apart = λ s. absurd (none_covers s.one s.place s.in_one);
-      limited = sound.limited;
-      sized = sound.sized;
-      roomy = sound.roomy;
+      sound = sound_empty (c.min-places.result - 0) (omega arith);
     }

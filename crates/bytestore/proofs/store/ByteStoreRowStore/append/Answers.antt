@@ -36,7 +36,7 @@ store-requires c =
     let h = c.in_ok-region.ensures in
     let q = parts s t c.in_ok-region.region h.found.0 in
     let o = met s t c.args.row.now c.in_ok-region.region (none_at_ok _ _ _ h.result) (none_at_ok _ _ _ c.in_ok-check_row.ensures) h.found.0 c.if-region.false in
-    (omega (arith, q, place_fits s t (region_of s t).count (omega (arith, q))), (append_met (meaning_of s) t c.args.row.now o).2)
+    record { place = omega (arith, q, place_fits s t (region_of s t).count (omega (arith, q))); row = (append_met (meaning_of s) t c.args.row.now o).2 }
 
 pub invariant_of-self : goal.invariant_of-self
 invariant_of-self c =

@@ -9,7 +9,7 @@ overflow_sub-top c = let h = c.in_ok-gone.ensures.found in omega (arith, end_fit
 pub move_down-requires : goal.move_down-requires
 move_down-requires c =
     let h = c.in_ok-gone.ensures.found in
-    (omega arith, omega (arith, c.args.self.now.fits, end_fits c.args.self.now c.args.number c.in_ok-gone.gone h.0 h.2))
+    record { down = omega arith; inside = omega (arith, c.args.self.now.fits, end_fits c.args.self.now c.args.number c.in_ok-gone.gone h.0 h.2) }
 
 pub overflow_sub-self : goal.overflow_sub-self
 overflow_sub-self c = let h = c.in_ok-gone.ensures.found in omega (arith, end_fits c.args.self.now c.args.number c.in_ok-gone.gone h.0 h.2)

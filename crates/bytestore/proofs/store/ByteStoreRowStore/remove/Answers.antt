@@ -12,7 +12,7 @@ move_down-requires c =
     let s = c.args.self.now in
     let t = c.args.number in
     let h = c.in_ok-gap.ensures.found in
-    (omega arith, omega (arith, h, place_fits s t ((region_of s t).count - 1) (omega (arith, h, count_at s t h.2))))
+    record { down = omega arith; inside = omega (arith, h, place_fits s t ((region_of s t).count - 1) (omega (arith, h, count_at s t h.2))) }
 
 pub invariant_of-self : goal.invariant_of-self
 invariant_of-self c =

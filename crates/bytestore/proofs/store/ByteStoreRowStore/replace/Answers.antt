@@ -17,7 +17,7 @@ store-requires c =
     let t = c.args.number in
     let h = c.in_ok-at.ensures in
     let o = met s t c.args.place c.args.row.now (none_at_ok _ _ _ h.result) (none_at_ok _ _ _ c.in_ok-check_row.ensures) in
-    ((row_fits s t h.found.2 c.args.place _ h.found.3 h.found.0).0, (replace_met (meaning_of s) t c.args.place c.args.row.now o).3)
+    record { place = (row_fits s t h.found.2 c.args.place _ h.found.3 h.found.0).0; row = (replace_met (meaning_of s) t c.args.place c.args.row.now o).3 }
 
 pub invariant_of-self : goal.invariant_of-self
 invariant_of-self c =

@@ -10,7 +10,8 @@ use Rattle.bytestore.proofs.store.ByteStoreRowStore.row.Goals as goal
 pub row-requires : goal.row-requires
 row-requires c =
     let h = c.in_ok-place_of.ensures.found in
-    row_fits c.args.self.now c.args.number h.2 c.args.place _ h.3 h.0
+    let fits = row_fits c.args.self.now c.args.number h.2 c.args.place _ h.3 h.0 in
+    record { place = fits.0; row = fits.1 }
 
 answered : (s : ByteStore) (t k p : ℕ) (row : List ℕ) → 0 < (region_of s t).limit → k < (region_of s t).count → p ≡ (region_of s t).base + k → row ≡ row_in (bytes_of s) p → row_unmet (meaning_of s) t k ≡ None →
     Ok row ≡ answer (row_unmet (meaning_of s) t k) (row_at (meaning_of s) t k)

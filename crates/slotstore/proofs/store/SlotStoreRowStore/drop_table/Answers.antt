@@ -8,7 +8,7 @@ use Rattle.slotstore.specs.declared.chain.Chain.{Chain}
 use Rattle.slotstore.specs.Slot.{links}
 use Rattle.slotstore.specs.Chain.{chain_at, spot}
 use Rattle.slotstore.specs.Store.{slot_meaning}
-use Rattle.slotstore.proofs.Bounds.{meaning_of, sound_of, roomy_with}
+use Rattle.slotstore.proofs.Bounds.{meaning_of, roomy_with}
 use Rattle.slotstore.proofs.Keeps.{Ghosts, keeps}
 use Rattle.slotstore.proofs.Joins.{joined, join_moved, join_meaning}
 use Rattle.slotstore.proofs.store.SlotStoreRowStore.drop_table.Goals as goal
@@ -41,7 +41,7 @@ done c =
       o,
       m,
       keeps s ss (after c) (dropped (meaning_of s) t) (simp length-set) c.link.ensures.long
-          (join_moved s t checked.found ss (linked c) c.link.ensures.filled) m (sound_dropped (meaning_of s) t (sound_of s) o),
+          (join_moved s t checked.found ss (linked c) c.link.ensures.filled) m (sound_dropped (meaning_of s) t s.sound o),
     )
 
 pub invariant_of-self : goal.invariant_of-self
