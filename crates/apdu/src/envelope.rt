@@ -108,6 +108,7 @@ impl Body {
 }
 
 /// Opens the envelope of a command that is given with an answer area of so many bytes.
+// The area's length is asked here alone, and nothing keeps it beside the command, so the two make no type.
 pub fn open_envelope(command: &[u8], area: usize) -> Result<Envelope<'_>, EnvelopeFault>
     ensures result { envelope result ≡ opened command.now area }
     ensures within { IfOk result (λ e. Within command.now e.operation e.field.now) }

@@ -15,6 +15,8 @@ impl Source {
     pub fn cell<'a>(self, command: &'a [u8], old: &'a [u8], column: usize) -> CellBytes<'a>
         ensures { result.bytes.now ≡ supplied command.now old.now column self }
     {
+        // A match and no trait: a row's sources are a list of both kinds, and without a heap no list holds values of
+        // several types.
         match self {
             Source::Command { place } => string_at(command, place),
             Source::Old => cell(old, column),
