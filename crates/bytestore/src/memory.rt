@@ -7,6 +7,7 @@ use rowmodel::ROW_BYTES;
 pub const PLACE_BYTES: usize = 1 + ROW_BYTES;
 
 /// Lent bytes, as places of `PLACE_BYTES` bytes.
+// It has no model: of one slice it would only take `.bytes.now` from the clauses, at more lines than it shortens.
 #[derive(Drop)]
 pub(crate) struct Memory<'a> {
     pub(crate) bytes: &'a mut [u8],

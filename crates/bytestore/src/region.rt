@@ -6,7 +6,7 @@ use rowmodel::TABLES;
 /// Where a table lies: `limit` places from place `base` on, of which the first `count` hold rows.
 /// The limit of an unused number is 0.
 // Not `Option<Region>`: a limit of 0 says it already, and `Some` of a limit of 0 would have to be ruled out.
-#[derive(Clone, Copy)]
+#[derive(Clone, Copy, PartialEq, Eq, Debug)]
 pub(crate) struct Region {
     pub base: u16,
     pub limit: u16,

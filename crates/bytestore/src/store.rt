@@ -43,7 +43,7 @@ impl<'a> ByteStore<'a> {
     }
 
     /// The region of a number in use.
-    // Each store asks its own memory: all that the two could share is the comparison.
+    // Here and at the place of a row each store asks its own memory: all that the two could share is the comparison.
     fn used_region(&self, number: u8) -> Result<Region, StoreFault>
         ensures result { result ≡ answer (drop_unmet (byte_meaning self.now.memory.bytes.now self.now.regions (self.now.places - self.now.top)) number) (region self.now.regions number) }
         ensures found { IfOk result (λ x. (x ≡ region self.now.regions number) × (number < 16) × (0 < (region self.now.regions number).limit)) }

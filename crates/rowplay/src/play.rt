@@ -1,108 +1,124 @@
 //! Plays a script on two stores side by side.
-ghost use Rattle.std.specs.Prelude.{◌≤◌, IfOk};
+ghost use Rattle.std.specs.Prelude.{◌<◌, length, IfOk, OnSome};
 
 use crate::line::{Line, LineFault, read_line};
 use crate::say::Said;
 use bytestore::{ByteStore, PLACE_BYTES};
 use rowmodel::{MOST_ROWS, ROW_BYTES};
-use rowstore::{RowStore, perform_both};
+use rowstore::{Both, Call, RowStore, Session, perform_both};
 use script::at_line;
 use slotstore::{Slot, SlotStore};
 use std::alloc::Global;
 use std::io;
 use std::io::Write;
 
-/// Performs a line's call on both stores, and writes the answer, or both where they differ.
-fn answer_line<L: RowStore, R: RowStore, W: Write>(
-    out: &mut W,
-    left: &mut L,
-    right: &mut R,
-    line: &Line,
-) -> io::Result<()> {
-    let Some(call) = line.call() else {
-        return Ok(());
-    };
-    let n = line.area().min(ROW_BYTES);
-    let mut left_bytes = [0; ROW_BYTES];
-    let mut right_bytes = [0; ROW_BYTES];
-    let left_area = &mut left_bytes[0..n];
-    let right_area = &mut right_bytes[0..n];
-    let both = perform_both(left, right, &call, left_area, right_area);
-    let one = Said {
-        answer: &both.left,
-        area: left_area,
-    };
-    let other = Said {
-        answer: &both.right,
-        area: right_area,
-    };
-    if both.same {
-        writeln!(out, "{one}")
-    } else {
-        writeln!(out, "DIFFER: slots {one}, bytes {other}")
-    }
+/// The two stores that a script is played on.
+#[derive(Drop)]
+struct Stores<L, R> {
+    slots: L,
+    bytes: R,
 }
 
-fn line_at(heap: Global, lines: &[String], at: usize) -> anyhow::Result<Line> {
-    let Some(text) = lines.get(at) else {
-        return Ok(Line::Nothing);
-    };
-    match read_line(heap, text.as_str()) {
-        Ok(line) => Ok(line),
-        Err(fault) => Err(at_line(heap, at, &fault)),
-    }
-}
-
-/// Plays the lines from `at` on, up to the next new store, and tells where it stopped.
-fn play_calls<L: RowStore, R: RowStore, W: Write>(
-    heap: Global,
-    out: &mut W,
-    left: &mut L,
-    right: &mut R,
-    lines: &[String],
-    at: usize,
-) -> anyhow::Result<usize>
-    ensures { IfOk result (λ n. at ≤ n) }
-{
-    for i in at..lines.len() {
-        let line = line_at(heap, lines, i)?;
-        if let Line::Store { .. } = line {
-            return Ok(i);
+impl<L: RowStore, R: RowStore> Stores<L, R> {
+    /// Performs a call on both stores, and writes the answer, or both where they differ.
+    fn answer<W: Write>(&mut self, out: &mut W, call: &Call, area: usize) -> io::Result<()> {
+        let n = area.min(ROW_BYTES);
+        let mut slots_area = [0; ROW_BYTES];
+        let mut bytes_area = [0; ROW_BYTES];
+        let mut slots = Session {
+            store: &mut self.slots,
+            area: &mut slots_area[0..n],
+        };
+        let mut bytes = Session {
+            store: &mut self.bytes,
+            area: &mut bytes_area[0..n],
+        };
+        match perform_both(&mut slots, &mut bytes, call) {
+            Both::Same(answer) => {
+                let both = Said {
+                    answer,
+                    area: slots.area,
+                };
+                writeln!(out, "{both}")
+            }
+            Both::Differ { left, right } => {
+                let one = Said {
+                    answer: left,
+                    area: slots.area,
+                };
+                let other = Said {
+                    answer: right,
+                    area: bytes.area,
+                };
+                writeln!(out, "DIFFER: slots {one}, bytes {other}")
+            }
         }
-        answer_line(out, left, right, &line)?;
     }
-    Ok(lines.len().max(at))
 }
 
-/// Makes two stores, each with memory for so many rows, and plays the lines from `at` on, up to the next new store.
-fn play_stores<W: Write>(
+/// A script on its way: the lines that are still to be played, and where the answers go.
+#[derive(Drop)]
+struct Player<'a, W> {
     heap: Global,
-    out: &mut W,
-    rows: usize,
-    lines: &[String],
+    out: &'a mut W,
+    lines: &'a [String],
+    /// How many lines were played.
     at: usize,
-) -> anyhow::Result<usize>
-    ensures { IfOk result (λ n. at ≤ n) }
-{
-    let rows = rows.min(MOST_ROWS);
-    let mut slots = vec![in heap; Slot::empty(); rows]?;
-    let mut bytes = vec![in heap; 0u8; rows * PLACE_BYTES]?;
-    let mut left = SlotStore::new(slots.as_mut_slice());
-    let mut right = ByteStore::new(bytes.as_mut_slice());
-    answer_line(out, &mut left, &mut right, &Line::Free)?;
-    play_calls(heap, out, &mut left, &mut right, lines, at)
+}
+
+impl<W: Write> Player<'_, W> {
+    /// Plays the lines up to the next new stores, and tells how many rows those have memory for.
+    fn play_calls<L: RowStore + Drop, R: RowStore + Drop>(
+        &mut self,
+        mut stores: Option<Stores<L, R>>,
+    ) -> anyhow::Result<Option<usize>>
+        ensures { IfOk result (λ next. OnSome next (length self.new.lines.now < length self.old.lines.now)) }
+    {
+        while let Some((text, rest)) = self.lines.split_first() {
+            let at = self.at;
+            self.lines = rest;
+            self.at = at.saturating_add(1);
+            let mut row = Vec::new(self.heap);
+            match read_line(self.heap, text.as_str(), &mut row) {
+                Ok(None) => {}
+                Ok(Some(Line::Store { rows })) => return Ok(Some(rows)),
+                Ok(Some(Line::Call { call, area })) => match &mut stores {
+                    Some(stores) => stores.answer(self.out, &call, area)?,
+                    None => return Err(at_line(self.heap, at, &LineFault::Store)),
+                },
+                Err(fault) => return Err(at_line(self.heap, at, &fault)),
+            }
+        }
+        Ok(None)
+    }
+
+    /// Makes two stores, each with memory for so many rows, and plays the lines up to the next new ones.
+    fn play_stores(&mut self, rows: usize) -> anyhow::Result<Option<usize>>
+        ensures { IfOk result (λ next. OnSome next (length self.new.lines.now < length self.old.lines.now)) }
+    {
+        let rows = rows.min(MOST_ROWS);
+        let mut slots = vec![in self.heap; Slot::empty(); rows]?;
+        let mut bytes = vec![in self.heap; 0u8; rows * PLACE_BYTES]?;
+        let mut stores = Stores {
+            slots: SlotStore::new(slots.as_mut_slice()),
+            bytes: ByteStore::new(bytes.as_mut_slice()),
+        };
+        stores.answer(self.out, &Call::Free, 0)?;
+        self.play_calls(Some(stores))
+    }
 }
 
 /// Plays a whole script.
 pub fn play_script<W: Write>(heap: Global, out: &mut W, lines: &[String]) -> anyhow::Result<()> {
-    let mut at = 0;
-    while at < lines.len() {
-        let line = line_at(heap, lines, at)?;
-        match line {
-            Line::Nothing => at += 1,
-            Line::Store { rows } => at = play_stores(heap, out, rows, lines, at + 1)?,
-            _ => return Err(at_line(heap, at, &LineFault::Store)),
-        }
+    let mut player = Player {
+        heap,
+        out,
+        lines,
+        at: 0,
+    };
+    let mut next = player.play_calls(None::<Stores<SlotStore, ByteStore>>)?;
+    while let Some(rows) = next {
+        next = player.play_stores(rows)?;
     }
     Ok(())
 }

@@ -8,6 +8,7 @@ use rowmodel::{MOST_LIMIT, StoreFault, TABLES, TableSize};
 /// Tables of rows, known by their meaning: for each number from 0 to 15 unused, or a limit and a list of rows; and
 /// the number of free rows. A call is refused exactly if one of its needs is unmet: it names the first one, and
 /// leaves the meaning and the area as they were.
+// A number and a place stay two arguments: a struct of both would be made for each call and taken apart at once.
 pub trait RowStore {
     ghost meaning: { Self → Meaning };
 

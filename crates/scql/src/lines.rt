@@ -2,38 +2,25 @@
 use hexadecimal::decode;
 use script::{number, without_comment};
 use std::alloc::{AllocError, Global};
-use std::fmt;
+use thiserror::Error;
 
 /// Why a line of a script cannot be played.
-#[derive(Drop)]
+#[derive(Drop, Debug, Error)]
 pub enum LineFault {
     /// It is neither `area` and a number nor a command in hexadecimal digits.
+    #[error("neither a command in hexadecimal digits, two to a byte, nor area and a number")]
     NoLine,
     /// There is no memory for it.
-    Memory,
-}
-
-impl From<AllocError> for LineFault {
-    fn from(_e: AllocError) -> LineFault {
-        LineFault::Memory
-    }
-}
-
-impl fmt::Display for LineFault {
-    fn fmt<W: fmt::Write>(&self, f: &mut fmt::Formatter<W>) -> fmt::Result {
-        f.write_str(match self {
-            LineFault::NoLine =>
-                "neither a command in hexadecimal digits, two to a byte, nor area and a number",
-            LineFault::Memory => "no memory",
-        })
-    }
+    #[error("no memory")]
+    Memory(#[from(alloc)] AllocError),
 }
 
 /// What a line of a script says.
-#[derive(Drop)]
+#[derive(Drop, PartialEq, Eq, Debug)]
 pub enum Line {
-    Nothing,
+    /// The length of the answer area for the commands after it.
     Area { length: usize },
+    /// A command.
     Command { bytes: Vec<u8> },
 }
 
@@ -41,26 +28,19 @@ pub enum Line {
 fn read_area(words: &str) -> Option<usize> {
     let mut words = words.split_whitespace();
     let length = number(words.next())?;
-    match words.next() {
-        Some(_) => None,
-        None => Some(length),
-    }
+    words.next().is_none().then_some(length)
 }
 
-/// Reads a line of a script.
-pub fn read_line(heap: Global, text: &str) -> Result<Line, LineFault> {
+/// Reads a line of a script, if it says anything.
+pub fn read_line(heap: Global, text: &str) -> Result<Option<Line>, LineFault> {
     let text = without_comment(text).trim();
     if text.is_empty() {
-        return Ok(Line::Nothing);
+        return Ok(None);
     }
     if let Some(words) = text.strip_prefix("area ") {
-        return match read_area(words) {
-            Some(length) => Ok(Line::Area { length }),
-            None => Err(LineFault::NoLine),
-        };
+        let length = read_area(words).ok_or(LineFault::NoLine)?;
+        return Ok(Some(Line::Area { length }));
     }
-    match decode(heap, text.as_bytes())? {
-        Some(bytes) => Ok(Line::Command { bytes }),
-        None => Err(LineFault::NoLine),
-    }
+    let bytes = decode(heap, text.as_bytes())?.ok_or(LineFault::NoLine)?;
+    Ok(Some(Line::Command { bytes }))
 }

@@ -12,10 +12,9 @@ use commands::parse_command;
 use explain::Explained;
 use lines::{Line, read_line};
 use refusal::Refusal;
-use script::{at_line, read_lines};
+use script::{at_line, exit_code, play_file};
 use std::alloc::Global;
-use std::fs::File;
-use std::io::{BufWriter, Write};
+use std::io::Write;
 use std::process::ExitCode;
 use std::{env, io};
 
@@ -45,9 +44,9 @@ fn explain_script<W: Write>(heap: Global, out: &mut W, script: &[String]) -> any
     let mut area = USUAL_AREA;
     for (at, text) in script.iter().enumerate() {
         match read_line(heap, text.as_str()) {
-            Ok(Line::Nothing) => {}
-            Ok(Line::Area { length }) => area = length,
-            Ok(Line::Command { bytes }) => explain_command(out, bytes.as_slice(), area)?,
+            Ok(None) => {}
+            Ok(Some(Line::Area { length })) => area = length,
+            Ok(Some(Line::Command { bytes })) => explain_command(out, bytes.as_slice(), area)?,
             Err(fault) => return Err(at_line(heap, at, &fault)),
         }
     }
@@ -55,31 +54,17 @@ fn explain_script<W: Write>(heap: Global, out: &mut W, script: &[String]) -> any
 }
 
 fn run(rt: &HostRuntime) -> anyhow::Result<()> {
-    let heap = rt.alloc();
     let mut words = env::args(rt)?;
-    let _ = words.next();
-    let Some(job) = words.next() else {
-        return Err(anyhow!(USAGE));
-    };
-    if job.as_str() != "explain" {
+    if words.nth(1).as_deref() != Some("explain") {
         return Err(anyhow!(USAGE));
     }
-    let script = match words.next() {
-        Some(path) => read_lines(heap, File::open(rt, path.as_str())?)?,
-        None => read_lines(heap, rt.stdin())?,
-    };
-    let mut out = BufWriter::new(heap, rt.stdout())?;
-    let explained = explain_script(heap, &mut out, script.as_slice());
-    out.flush()?;
-    explained
+    play_file(
+        rt,
+        words.next(),
+        |script, out| explain_script(rt.alloc(), out, script),
+    )
 }
 
 fn main(rt: HostRuntime) -> anyhow::Result<ExitCode> {
-    match run(&rt) {
-        Ok(()) => Ok(ExitCode::SUCCESS),
-        Err(fault) => {
-            eprintln!(rt; "scql: {fault}")?;
-            Ok(ExitCode::FAILURE)
-        }
-    }
+    exit_code(&rt, "scql", run(&rt))
 }

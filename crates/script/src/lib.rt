@@ -2,11 +2,14 @@
 
 #![tactic(auto)]
 
-ghost use Rattle.std.specs.Prelude.{◌≡◌, ℕ, ◌<◌, length, take, ◌≢◌, slice_index};
+ghost use Rattle.std.specs.Prelude.{◌≡◌, ℕ, ◌<◌, length, take, ◌≢◌, slice_index, Ok, IfOk, OnOk, MatchResult};
+ghost use Rattle.std.specs.Process.{exit_status};
 
 use anyhow::anyhow;
 use std::alloc::Global;
-use std::io::{BufRead, BufReader, Read};
+use std::fs::File;
+use std::io::{BufRead, BufReader, BufWriter, Read, Stdout, Write};
+use std::process::ExitCode;
 use std::str::FromStr;
 use std::{fmt, io};
 
@@ -40,5 +43,41 @@ pub fn at_line<F: fmt::Display>(heap: Global, at: usize, fault: &F) -> anyhow::E
     match format!(in heap; "line {number}: {fault}") {
         Ok(message) => anyhow!(message),
         Err(_) => anyhow!("no memory"),
+    }
+}
+
+/// Plays a script, from the file at that path or else from standard input: gives its lines to `play`, with where to
+/// write, which is standard output.
+pub fn play_file<F>(rt: &HostRuntime, path: Option<String>, play: F) -> anyhow::Result<()>
+where
+    F: FnOnce(&[String], &mut BufWriter<Stdout>) -> anyhow::Result<()>,
+    requires { F.IsAlwaysCallable play }
+    ensures { OnOk result ((lines : _) × (out : _) × (after : _) × F.post play lines out (Ok tt) after) }
+{
+    let heap = rt.alloc();
+    let lines = match path {
+        Some(path) => read_lines(heap, File::open(rt, path.as_str())?)?,
+        None => read_lines(heap, rt.stdin())?,
+    };
+    let mut out = BufWriter::new(heap, rt.stdout())?;
+    let played = play(lines.as_slice(), &mut out);
+    out.flush()?;
+    played
+}
+
+/// How a program ends: a fault is told on standard error, behind the program's name.
+pub fn exit_code(
+    rt: &HostRuntime,
+    program: &str,
+    played: anyhow::Result<()>,
+) -> anyhow::Result<ExitCode>
+    ensures { IfOk result (λ code. MatchResult played (λ _. exit_status code ≡ 0) (λ _. exit_status code ≡ 1)) }
+{
+    match played {
+        Ok(()) => Ok(ExitCode::SUCCESS),
+        Err(fault) => {
+            eprintln!(rt; "{program}: {fault}")?;
+            Ok(ExitCode::FAILURE)
+        }
     }
 }

@@ -1,5 +1,5 @@
 -- What a store's ghost fields say of its chains.
-use Rattle.std.proofs.Common.{◌≡◌, ℕ, ◌+◌, ◌<◌, ◌≤◌, ◌≢◌, [], length, get_or, refl, ap, ◌∙◌, subst, arith}
+use Rattle.std.proofs.Common.{◌≡◌, ℕ, ◌+◌, ◌<◌, ◌≤◌, ◌≢◌, [], length, get_or, ap, ◌∙◌, subst, arith}
 use Rattle.rowmodel.specs.Meaning.{unused, Meaning, table, limit_of, rows_of, row_at}
 use Rattle.rowmodel.proofs.Tables.{limits_set}
 use Rattle.slotstore.specs.declared.store.SlotStore.{SlotStore}

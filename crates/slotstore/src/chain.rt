@@ -1,5 +1,6 @@
 /// `size` slots, from `head` on, each linked to the next; the first `count` of them hold rows.
-#[derive(Clone, Copy)]
+// Not `Option<Chain>`: a size of 0 says that a number has none, and `Some` of a size of 0 would have to be ruled out.
+#[derive(Clone, Copy, PartialEq, Eq, Debug)]
 pub(crate) struct Chain {
     pub(crate) head: u16,
     pub(crate) size: u16,

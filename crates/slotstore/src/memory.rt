@@ -17,11 +17,7 @@ impl Memory<'_> {
         requires { (j : ℕ) → j < k → follow (links self.now.slots.now) head j < length self.now.slots.now }
         ensures { result ≡ follow (links self.now.slots.now) head k }
     {
-        let mut at = head;
-        for i in 0..k {
-            at = self.next(at);
-        }
-        at
+        (0..k).fold(head, |at, _| self.next(at))
     }
 
     /// The slot that a slot is linked to.

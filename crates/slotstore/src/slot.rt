@@ -4,7 +4,7 @@ use rowmodel::ROW_BYTES;
 
 /// One row.
 // It has no model: a row is copied, so that a model would have to give back the bytes past the row too.
-#[derive(Clone, Copy)]
+#[derive(Clone, Copy, PartialEq, Eq, Debug)]
 pub(crate) struct Row {
     len: u8,
     bytes: [u8; ROW_BYTES],
@@ -35,7 +35,7 @@ impl Row {
 }
 
 /// Memory for one row, and the slot after it in its chain.
-#[derive(Clone, Copy)]
+#[derive(Clone, Copy, PartialEq, Eq, Debug)]
 pub struct Slot {
     pub(crate) row: Row,
     pub(crate) next: u16,

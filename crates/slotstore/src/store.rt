@@ -60,7 +60,8 @@ impl SlotStore<'_> {
         self.memory.walk(head, k)
     }
 
-    // Whether a number is in use. Each store asks its own memory: all that the two could share is the comparison.
+    // Whether a number is in use. Here and at the place of a row each store asks its own memory: all that the two could
+    // share is the comparison.
     fn check_used(&self, number: u8) -> Result<(), StoreFault>
         ensures result { result ≡ answer (drop_unmet (slot_meaning self.now.memory.slots.now self.now.chains) number) tt }
         ensures found { OnOk result (InUse self.now.chains number) }

@@ -1,6 +1,7 @@
-use Rattle.std.proofs.Common.{◌-◌, length}
+use Rattle.std.proofs.Common.{◌+◌, length}
+use Rattle.std.specs.Option.{option_map_or}
 use Rattle.rowplay.proofs.play.play_script.Given as goal
 
--- each turn plays a line at least
-abbrev pub decreases-loop-at : goal.decreases-loop-at
-decreases-loop-at g l = length l.lines - l.at
+-- each turn takes a line with new stores, or is the last one
+abbrev pub decreases-loop-next : goal.decreases-loop-next
+decreases-loop-next g l = option_map_or (λ rows. length l.player.lines.now + 1) l.next 0

@@ -1,4 +1,4 @@
-use Rattle.std.proofs.Common.{◌≡◌, ◌<◌, ◌≤◌, cond, ◌&&◌, leb, ◌⊎◌, List, Some, None, refl, ◌∙◌, inl, inr, arith}
+use Rattle.std.proofs.Common.{◌≡◌, List, None, refl}
 use Rattle.std.proofs.lemmas.List.{length-set}
 use Rattle.rowmodel.specs.Needs.{make_unmet}
 use Rattle.rowmodel.specs.Calls.{made}
@@ -6,7 +6,6 @@ use Rattle.rowmodel.proofs.Refusals.{ok_at, old_at, new_at, none_at_ok, some_at_
 use Rattle.rowmodel.proofs.Kept.{sound_made}
 use Rattle.slotstore.specs.Slot.{links}
 use Rattle.slotstore.specs.declared.chain.Chain.{Chain}
-use Rattle.slotstore.specs.Chain.{chain_at}
 use Rattle.slotstore.specs.Store.{slot_meaning}
 use Rattle.slotstore.proofs.Bounds.{meaning_of}
 use Rattle.slotstore.proofs.Unmet.{Available, available}
