@@ -1,7 +1,7 @@
 ghost use Rattle.std.specs.Prelude.{◌≡◌, ℕ, ◌+◌, ◌*◌, ◌<◌, ◌≤◌, ◌≢◌, length};
 ghost use Rattle.bytestore.specs.Memory.{row_in, Alike};
 
-use rowmodel::ROW_BYTES;
+use rowmodel::{KeptRow, ROW_BYTES};
 
 /// The bytes of a place: a row's length, and room for the row.
 pub const PLACE_BYTES: usize = 1 + ROW_BYTES;
@@ -26,16 +26,16 @@ impl Memory<'_> {
     }
 
     /// Puts a row at a place.
-    pub(crate) fn store(&mut self, place: usize, row: &[u8])
-        requires place { 241 * (place + 1) ≤ length self.old.bytes.now }
-        requires row { length row.now ≤ 240 }
+    pub(crate) fn store(&mut self, place: usize, row: KeptRow)
+        requires { 241 * (place + 1) ≤ length self.old.bytes.now }
         ensures len { length self.new.bytes.now ≡ length self.old.bytes.now }
-        ensures here { row_in self.new.bytes.now place ≡ row.now }
+        ensures here { row_in self.new.bytes.now place ≡ row.entry.bytes.now }
         ensures others { (q : ℕ) → q ≢ place → Alike self.new.bytes.now q self.old.bytes.now q }
     {
         let start = PLACE_BYTES * place;
-        self.bytes[start] = row.len() as u8;
-        self.bytes[start + 1..start + 1 + row.len()].copy_from_slice(row);
+        let len = row.bytes.len();
+        self.bytes[start] = len as u8;
+        self.bytes[start + 1..start + 1 + len].copy_from_slice(row.bytes);
     }
 
     /// Moves `n` places from place `from` on down to place `to`.

@@ -116,7 +116,7 @@ impl RowStore for ByteStore<'_> {
 
     fn append(&mut self, number: u8, row: &[u8]) -> Result<(), StoreFault> {
         let region = self.used_region(number)?;
-        check_row(row)?;
+        let row = check_row(row)?;
         if region.count >= region.limit {
             return Err(StoreFault::Full);
         }
@@ -128,7 +128,7 @@ impl RowStore for ByteStore<'_> {
 
     fn replace(&mut self, number: u8, place: usize, row: &[u8]) -> Result<(), StoreFault> {
         let at = self.place_of(number, place)?;
-        check_row(row)?;
+        let row = check_row(row)?;
         self.memory.store(at, row);
         Ok(())
     }

@@ -15,8 +15,7 @@ impl Source {
     pub fn cell<'a>(self, command: &'a [u8], old: &'a [u8], column: usize) -> CellBytes<'a>
         ensures { result.bytes.now ≡ supplied command.now old.now column self }
     {
-        // A match and no trait: a row's sources are a list of both kinds, and without a heap no list holds values of
-        // several types.
+        // A match and no trait: these two kinds are all, and a row's sources are one list of both.
         match self {
             Source::Command { place } => string_at(command, place),
             Source::Old => cell(old, column),

@@ -1,9 +1,8 @@
 -- The codes of profiles and rights, and their words.
-use Rattle.std.specs.Prelude.{◌≡◌, ℕ, Bool, cond, ◌&&◌, List, length, Some, None, Option, Result, MatchResult, codes, ◌==◌, slice_index}
+use Rattle.std.specs.Prelude.{ℕ, Bool, cond, ◌&&◌, List, length, Some, None, Option, codes, ◌==◌, slice_index}
 use Rattle.commands.specs.declared.command.Profile.{Profile}
 use Rattle.commands.specs.declared.command.Profile.TheVariants.{ObjectOwner, BasicUser}
 use Rattle.commands.specs.declared.command.Right.{Right}
-use Rattle.commands.specs.declared.codes.UnknownRight.{UnknownRight}
 use Rattle.commands.specs.declared.command.Right.TheVariants.{Insert, Select, Update, Delete, All}
 
 -- a text of four given characters
@@ -18,10 +17,6 @@ abbrev pub right_of : ℕ → Option Right
 right_of code =
     cond (code == 0x41) (Some Insert) (cond (code == 0x42) (Some Select) (cond (code == 0x44) (Some Update)
     (cond (code == 0x48) (Some Delete) (cond (code == 0x4F) (Some All) None))))
-
--- the result is the right of the code, or an error with a code that no right has
-abbrev pub DecodesRight : ℕ → Result Right UnknownRight → Type 0
-DecodesRight code r = MatchResult r (λ x. right_of code ≡ Some x) (λ e. (right_of code ≡ None) × (e.0 ≡ code))
 
 -- the text that names a profile, and the word of a right
 abbrev pub profile_word : Profile → List ℕ

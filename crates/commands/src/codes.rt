@@ -1,6 +1,7 @@
 ghost use Rattle.std.specs.Prelude.{◌≡◌, Some};
 ghost use Rattle.std.specs.Result.{result_ok};
-ghost use Rattle.commands.specs.Codes.{profile_of, profile_word, right_word, DecodesRight};
+ghost use Rattle.text.specs.Decodes.{Decodes};
+ghost use Rattle.commands.specs.Codes.{profile_of, right_of, profile_word, right_word};
 
 use crate::command::{Profile, Right};
 use std::fmt;
@@ -47,7 +48,7 @@ pub struct UnknownRight(pub u8);
 impl TryFrom<u8> for Right {
     type Error = UnknownRight;
 
-    ghost try_from_gives = { DecodesRight };
+    ghost try_from_gives = { Decodes right_of (λ e. e.0) };
 
     fn try_from(code: u8) -> Result<Right, UnknownRight> {
         match code {

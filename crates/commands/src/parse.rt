@@ -16,9 +16,9 @@ use thiserror::Error;
 /// Why a command is not understood, and by which layer.
 #[derive(Clone, Copy, PartialEq, Eq, Debug, Error)]
 pub enum CommandFault {
-    #[error("{0}")]
+    #[error(transparent)]
     Envelope(EnvelopeFault),
-    #[error("{0}")]
+    #[error(transparent)]
     Field(FieldFault),
 }
 
@@ -40,6 +40,7 @@ impl From<FieldFault> for CommandFault {
 }
 
 /// What an opened envelope says.
+// A match and no table of parsers: some operations have no field to parse, and none can be left out.
 fn parse_field(envelope: Envelope<'_>) -> Result<Command<'_>, FieldFault>
     ensures { told result ≡ command_of envelope.entry.operation envelope.entry.field.now envelope.entry.le }
 {

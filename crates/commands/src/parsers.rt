@@ -19,7 +19,7 @@ const MOST_CONDITIONS: u8 = 4;
 const USUAL_LIMIT: u8 = 16;
 
 /// How many parameters so many entries of a kind are.
-fn parameters(kind: Entry, count: u8) -> usize
+fn parameter_count(kind: Entry, count: u8) -> usize
     ensures { result ≡ parameters_of kind count }
 {
     let count = count as usize;
@@ -38,7 +38,7 @@ fn read_list<'a>(reader: &mut Reader<'a>, kind: Entry, count: u8) -> Result<Part
     let list = Parts {
         field: reader.field,
         at: reader.place(),
-        count: parameters(kind, count),
+        count: parameter_count(kind, count),
     };
     reader.entries(kind, count)?;
     Ok(list)

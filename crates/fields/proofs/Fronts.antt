@@ -3,13 +3,6 @@ use Rattle.std.proofs.Common.{◌≡◌, ℕ, ◌-◌, min, List, [], length, ta
 use Rattle.std.proofs.lemmas.List.{take_rest, take_all, drop_all, length-drop}
 use Rattle.std.proofs.lemmas.Bool.{cases_lt}
 
--- past the end nothing is left
-pub drop_min : (bs : List ℕ) (at n : ℕ) → n ≡ min at (length bs) → drop n bs ≡ drop at bs
-drop_min bs at n e =
-    ⊎_elim (λ l. ap (λ k. drop k bs) (omega (arith, e)))
-    (λ l. drop_all n bs (omega (arith, e)) ∙ sym (drop_all at bs l))
-    (cases_lt at (length bs))
-
 none : (n : ℕ) (xs : List ℕ) → n ≡ 0 → take n xs ≡ []
 none n xs e = ap (λ k. take k xs) e
 

@@ -6,7 +6,7 @@ use Rattle.fields.specs.Reader.{Read, broken, and_then}
 use Rattle.fields.specs.Entries.{name_at, rest_at, differ, names, among}
 
 abbrev pub named : Names → List (List ℕ)
-named n = names n.kind n.field.now n.at n.count
+named n = names n.kind n.reader.field.now n.reader.at n.count
 
 -- an entry behind others that speak of some names: one that may not come again is at fault
 unfoldable pub entry_at : Entry → List (List ℕ) → List ℕ → ℕ → Read ℕ

@@ -22,7 +22,7 @@ pub struct Marks {
     longest: u8,
 }
 
-/// The place of the first dot, or the length where there is none.
+/// The place of the first dot, or the length where there is none: there a name ends either way.
 fn find_dot(bytes: &[u8]) -> usize
     ensures within { result ≤ length bytes.now }
     ensures first { result ≡ dot bytes.now }
@@ -59,12 +59,11 @@ fn read_marks(bytes: &[u8]) -> Option<Marks>
 pub fn read_column(bytes: &[u8]) -> Option<Column<'_>>
     ensures { option_map column result ≡ column_of bytes.now }
 {
-    let end = find_dot(bytes);
-    let name = &bytes[0..end];
+    let (name, rest) = bytes.split_at(find_dot(bytes));
     if !is_identifier(name) || name == b"USER".as_slice() {
         return None;
     }
-    let marks = read_marks(&bytes[end..])?;
+    let marks = read_marks(rest)?;
     Some(Column {
         name,
         unique: marks.unique,

@@ -9,6 +9,7 @@ use crate::column::read_column;
 use crate::reader::{FieldFault, Reader};
 
 /// The kinds of entries that a list in a field has.
+// An enum and no closures: the definitions name the kinds, and a list would need three closures that fit together.
 #[derive(Clone, Copy, PartialEq, Eq, Debug)]
 pub enum Entry {
     /// A column, by its name.
@@ -82,11 +83,10 @@ impl<'a> Reader<'a> {
 }
 
 /// The names that entries of a kind speak of, as far as the entries can be read.
-#[derive(Clone, Copy)]
+#[derive(Drop, Debug)]
 struct Names<'a> {
-    field: &'a [u8],
+    reader: Reader<'a>,
     kind: Entry,
-    at: usize,
     count: u8,
 }
 
@@ -101,18 +101,13 @@ impl<'a> Iterator for Names<'a> {
         if self.count == 0 {
             return None;
         }
-        let mut reader = Reader {
-            field: self.field,
-            at: self.at,
-        };
-        let Ok(name) = reader.entry_name(self.kind) else {
+        let Ok(name) = self.reader.entry_name(self.kind) else {
             return None;
         };
-        self.count = match reader.entry_rest(self.kind) {
+        self.count = match self.reader.entry_rest(self.kind) {
             Ok(()) => self.count - 1,
             Err(_) => 0,
         };
-        self.at = reader.at;
         Some(name)
     }
 }
@@ -127,11 +122,12 @@ impl Names<'_> {
 }
 
 impl Reader<'_> {
-    /// An entry of a kind that has others before it; a column that may not come again is at fault.
+    /// An entry of the kind of those before it; a column that may not come again is at fault.
     #[tactic(auto, unfolding(crate::specs::Names::entry_at))]
-    fn entry(&mut self, kind: Entry, earlier: Names<'_>) -> Result<(), FieldFault>
-        ensures { Reads (entry_at kind (named earlier.entry)) (λ _. 0) self.old self.new result }
+    fn entry(&mut self, earlier: Names<'_>) -> Result<(), FieldFault>
+        ensures { Reads (entry_at earlier.entry.kind (named earlier.entry)) (λ _. 0) self.old self.new result }
     {
+        let kind = earlier.kind;
         let fault = self.fault();
         let name = self.entry_name(kind)?;
         if kind.columns_differ() && earlier.have(name) {
@@ -146,13 +142,16 @@ impl Reader<'_> {
     {
         let from = self.at;
         for i in 0..count {
-            let earlier = Names {
+            let reader = Reader {
                 field: self.field,
-                kind,
                 at: from,
+            };
+            let earlier = Names {
+                reader,
+                kind,
                 count: i,
             };
-            self.entry(kind, earlier)?;
+            self.entry(earlier)?;
         }
         Ok(())
     }

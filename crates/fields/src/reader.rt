@@ -20,6 +20,7 @@ pub struct Part<'a> {
 }
 
 /// Parameters that stand one behind the other in a field, from a position on.
+// A position and a count, and no list: a card has no heap, and how far the parameters reach is seen when they are read.
 #[derive(Clone, Copy, PartialEq, Eq, Debug)]
 pub struct Parts<'a> {
     pub field: &'a [u8],
@@ -32,7 +33,7 @@ pub const DATA: usize = 5;
 
 /// Reads a field, a command up to the end of its data, from left to right. Its position is the offset of what it
 /// reads next. What breaks the field's form is told with its place.
-#[derive(Drop)]
+#[derive(Drop, Debug)]
 pub struct Reader<'a> {
     pub field: &'a [u8],
     pub at: usize,
@@ -54,6 +55,8 @@ impl<'a> Reader<'a> {
     }
 
     /// The fault at the position.
+    // Taken before a parameter is read, it is the fault of one that does not say what it should. That is a line in each
+    // such reader; a closure that judges what was read would be longer in each.
     pub fn fault(&self) -> FieldFault
         ensures { result.place ≡ self.now.at }
     {
@@ -68,10 +71,7 @@ impl<'a> Reader<'a> {
         let place = self.at;
         let field = self.field;
         let missing = FieldFault { place: field.len() };
-        let Some(len) = field.get(place) else {
-            return Err(missing);
-        };
-        let len = *len as usize;
+        let len = usize::from(*field.get(place).ok_or(missing)?);
         let from = place + 1;
         if field.len() - from < len {
             return Err(missing);
@@ -89,11 +89,10 @@ impl<'a> Reader<'a> {
     pub fn count(&mut self, least: u8, most: u8) -> Result<u8, FieldFault>
         ensures { Reads (λ bs. count_at bs least most) (λ n. n) self.old self.new result }
     {
-        let field = self.field;
-        let Some(count) = field.get(self.at) else {
-            return Err(FieldFault { place: field.len() });
+        let missing = FieldFault {
+            place: self.field.len(),
         };
-        let count = *count;
+        let count = *self.field.get(self.at).ok_or(missing)?;
         if count < least || count > most {
             return Err(self.fault());
         }
@@ -158,11 +157,9 @@ impl<'a> Reader<'a> {
     pub fn rest(&self) -> Part<'a>
         ensures { parameter result ≡ record { place = self.now.at; bytes = drop self.now.at self.now.field.now } }
     {
-        let field = self.field;
-        let from = self.at.min(field.len());
         Part {
             place: self.at,
-            bytes: &field[from..field.len()],
+            bytes: self.field.get(self.at..).unwrap_or(&[]),
         }
     }
 

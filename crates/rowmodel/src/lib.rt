@@ -4,8 +4,12 @@
 
 ghost use Rattle.std.specs.Prelude.{◌≡◌, Some};
 ghost use Rattle.rowmodel.specs.Needs.{answer, unmet, allowed_row};
+ghost use Rattle.rowmodel.specs.Row.{kept};
 ghost use Rattle.rowmodel.specs.Words.{in_words};
 
+mod row;
+
+pub use row::KeptRow;
 use std::fmt;
 
 /// The most bytes that a row has.
@@ -77,12 +81,12 @@ pub struct TableSize {
     pub rows: u8,
 }
 
-/// Whether a row may be kept: it has 1 to 240 bytes.
-pub fn check_row(row: &[u8]) -> Result<(), StoreFault>
-    ensures { result ≡ answer (unmet (allowed_row row.now)) tt }
+/// The row, if it may be kept.
+pub fn check_row(row: &[u8]) -> Result<KeptRow<'_>, StoreFault>
+    ensures { kept result ≡ answer (unmet (allowed_row row.now)) row.now }
 {
     if row.is_empty() || row.len() > ROW_BYTES {
         return Err(StoreFault::Length);
     }
-    Ok(())
+    Ok(KeptRow { bytes: row })
 }

@@ -15,6 +15,7 @@ pub struct Session<'a, S> {
 
 impl<S: RowStore> Session<'_, S> {
     /// Performs one call; a row that it copies goes to the front of the area.
+    // A match and no closures: a call is a value, so that lists of calls can be spoken of.
     pub fn perform(&mut self, call: &Call) -> Result<Answer, StoreFault>
         ensures told { result ≡ answered (held_by S.meaning self.old) (request call.now) }
         ensures kept { held_by S.meaning self.new ≡ after (held_by S.meaning self.old) (request call.now) }

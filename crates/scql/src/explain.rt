@@ -114,7 +114,7 @@ fn tell_column<W: fmt::Write>(f: &mut fmt::Formatter<W>, part: Part) -> fmt::Res
 }
 
 fn tell_columns<W: fmt::Write>(f: &mut fmt::Formatter<W>, columns: Parts) -> fmt::Result {
-    tell_list(f, "", ", ", columns, |f, part| tell_column(f, part))
+    tell_list(f, "", ", ", columns, tell_column)
 }
 
 fn tell_selection<W: fmt::Write>(f: &mut fmt::Formatter<W>, selection: Selection) -> fmt::Result {
@@ -186,7 +186,7 @@ fn tell_strings<W: fmt::Write>(f: &mut fmt::Formatter<W>, strings: Parts) -> fmt
     let count = strings.count;
     let noun = if count == 1 { "string" } else { "strings" };
     write!(f, ": {count} {noun}")?;
-    tell_list(f, ": ", ", ", strings, |f, string| tell_string(f, string))
+    tell_list(f, ": ", ", ", strings, tell_string)
 }
 
 fn tell_assignments<W: fmt::Write>(f: &mut fmt::Formatter<W>, assignments: Parts) -> fmt::Result {

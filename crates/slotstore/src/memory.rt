@@ -3,6 +3,7 @@ ghost use Rattle.slotstore.specs.Slot.{contents, links};
 ghost use Rattle.slotstore.specs.Chain.{follow};
 
 use crate::slot::{Row, Slot};
+use rowmodel::KeptRow;
 
 /// The lent slots.
 // It has no model: the lemmas go slot by slot, and would say `contents` and `links` of its value as often.
@@ -38,14 +39,13 @@ impl Memory<'_> {
     }
 
     /// Puts a row into a slot.
-    pub(crate) fn write(&mut self, slot: u16, row: &[u8])
-        requires slot { slot < length self.old.slots.now }
-        requires row { length row.now ≤ 240 }
+    pub(crate) fn write(&mut self, slot: u16, row: KeptRow)
+        requires { slot < length self.old.slots.now }
         ensures long { length self.new.slots.now ≡ length self.old.slots.now }
         ensures linked { links self.new.slots.now ≡ links self.old.slots.now }
-        ensures filled { contents self.new.slots.now ≡ slice_set (contents self.old.slots.now) slot row.now }
+        ensures filled { contents self.new.slots.now ≡ slice_set (contents self.old.slots.now) slot row.entry.bytes.now }
     {
-        self.slots[slot as usize].row = Row::new(row);
+        self.slots[slot as usize].row = Row::from(row);
     }
 
     /// Links a slot to another.

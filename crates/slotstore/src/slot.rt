@@ -1,31 +1,32 @@
 ghost use Rattle.std.specs.Prelude.{◌≡◌, ◌≤◌, [], length, take};
 
-use rowmodel::ROW_BYTES;
+use rowmodel::{KeptRow, ROW_BYTES};
 
 /// One row.
-// It has no model: a row is copied, so that a model would have to give back the bytes past the row too.
-#[derive(Clone, Copy, PartialEq, Eq, Debug)]
+// A fixed buffer with a length: a slot is lent memory, and the store has no heap. It has no model, since a row is copied, and
+// a model would have to give back the bytes past the row too; nor is it compared, since those bytes would count.
+#[derive(Clone, Copy, Debug)]
 pub(crate) struct Row {
     len: u8,
     bytes: [u8; ROW_BYTES],
     ghost ok: { (len ≤ 240) × (length bytes ≡ 240) },
 }
 
-impl Row {
-    /// The row of those bytes.
-    pub(crate) fn new(row: &[u8]) -> Row
-        requires { length row.now ≤ 240 }
-        ensures { take result.len result.bytes ≡ row.now }
-    {
+impl From<KeptRow<'_>> for Row {
+    ghost from_gives = { λ k r. take r.len r.bytes ≡ k.bytes.now };
+
+    fn from(row: KeptRow) -> Row {
         let mut bytes = [0; ROW_BYTES];
-        let n = row.len();
-        bytes[0..n].copy_from_slice(row);
+        let n = row.bytes.len();
+        bytes[0..n].copy_from_slice(row.bytes);
         Row {
             len: n as u8,
             bytes,
         }
     }
+}
 
+impl Row {
     /// The bytes of the row, where they lie.
     pub(crate) fn read(&self) -> &[u8]
         ensures { result.now ≡ take self.now.len self.now.bytes }
@@ -35,7 +36,8 @@ impl Row {
 }
 
 /// Memory for one row, and the slot after it in its chain.
-#[derive(Clone, Copy, PartialEq, Eq, Debug)]
+// Slots are linked by number, for the memory is lent and nothing is on a heap.
+#[derive(Clone, Copy, Debug)]
 pub struct Slot {
     pub(crate) row: Row,
     pub(crate) next: u16,
@@ -47,7 +49,10 @@ impl Slot {
         ensures { take result.row.len result.row.bytes ≡ [] }
     {
         Slot {
-            row: Row::new(&[]),
+            row: Row {
+                len: 0,
+                bytes: [0; ROW_BYTES],
+            },
             next: 0,
         }
     }

@@ -149,7 +149,7 @@ impl RowStore for SlotStore<'_> {
     fn append(&mut self, number: u8, row: &[u8]) -> Result<(), StoreFault> {
         self.check_used(number)?;
         let at = number as usize;
-        check_row(row)?;
+        let row = check_row(row)?;
         let table = self.chains[at];
         if table.count == table.size {
             return Err(StoreFault::Full);
@@ -162,7 +162,7 @@ impl RowStore for SlotStore<'_> {
 
     fn replace(&mut self, number: u8, place: usize, row: &[u8]) -> Result<(), StoreFault> {
         let slot = self.slot_of(number, place)?;
-        check_row(row)?;
+        let row = check_row(row)?;
         self.memory.write(slot, row);
         Ok(())
     }

@@ -2,6 +2,9 @@
 
 #![tactic(auto)]
 
+// Each function here answers `true` and its contract says so, so that a must-fail edit can turn it. They differ in the
+// theorem alone, which no parameter can be.
+
 mod causes;
 mod worked;
 

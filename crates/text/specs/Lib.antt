@@ -1,3 +1,4 @@
 pub mod Identifier
 pub mod Order
 pub mod Operator
+pub mod Decodes

@@ -1,19 +1,14 @@
 -- The operators of conditions: their codes, their signs, and when they hold.
-use Rattle.std.specs.Prelude.{◌≡◌, ℕ, Bool, true, false, cond, List, Some, None, Option, Result, MatchResult, codes, ◌==◌}
+use Rattle.std.specs.Prelude.{ℕ, Bool, true, false, cond, List, Some, None, Option, codes, ◌==◌}
 use Rattle.std.specs.declared.cmp.Ordering.{Ordering}
 use Rattle.std.specs.declared.cmp.Ordering.TheVariants.{Less, Equal, Greater}
 use Rattle.text.specs.declared.operator.Operator.{Operator}
 use Rattle.text.specs.declared.operator.Operator.TheVariants as operator
-use Rattle.text.specs.declared.operator.UnknownOperator.{UnknownOperator}
 
 abbrev pub coded_by : ℕ → Option Operator
 coded_by c =
     cond (c == 0x3D) (Some operator.Equal) (cond (c == 0x3C) (Some operator.Less) (cond (c == 0x3E) (Some operator.Greater)
     (cond (c == 0x4C) (Some operator.AtMost) (cond (c == 0x47) (Some operator.AtLeast) (cond (c == 0x23) (Some operator.Unequal) None)))))
-
--- the result is the operator of the code, or an error with a code that no operator has
-abbrev pub Decodes : ℕ → Result Operator UnknownOperator → Type 0
-Decodes code r = MatchResult r (λ o. coded_by code ≡ Some o) (λ e. (coded_by code ≡ None) × (e.0 ≡ code))
 
 -- the sign that tells an operator, in ASCII
 abbrev pub sign_of : Operator → List ℕ

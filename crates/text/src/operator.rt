@@ -1,5 +1,6 @@
 ghost use Rattle.std.specs.Prelude.{◌≡◌, Some};
-ghost use Rattle.text.specs.Operator.{Decodes, holds_of, sign_of};
+ghost use Rattle.text.specs.Decodes.{Decodes};
+ghost use Rattle.text.specs.Operator.{coded_by, holds_of, sign_of};
 
 use std::cmp::Ordering;
 use std::fmt;
@@ -25,7 +26,7 @@ pub struct UnknownOperator(pub u8);
 impl TryFrom<u8> for Operator {
     type Error = UnknownOperator;
 
-    ghost try_from_gives = { Decodes };
+    ghost try_from_gives = { Decodes coded_by (λ e. e.0) };
 
     fn try_from(code: u8) -> Result<Operator, UnknownOperator> {
         match code {

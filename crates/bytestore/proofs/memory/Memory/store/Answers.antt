@@ -22,7 +22,7 @@ module _ (a k : ℕ) (xs ys : List ℕ) (e : k ≡ length ys) (fits : a + k ≤ 
 pub returns : goal.returns
 returns c =
     let p = c.args.place in
-    let row = c.args.row.now in
+    let row = c.args.row.bytes.now in
     let bs = c.args.self.now.bytes.now in
     let a : ℕ = 241 * p + 1 in
     let k : ℕ = a + length row - a in

@@ -1,9 +1,8 @@
 use Rattle.std.proofs.Common.{◌≡◌, ℕ, ◌<◌, List, ◌++◌, None, refl, ◌∙◌, arith}
 use Rattle.std.proofs.lemmas.Bool.{cond-true, cond-false}
 use Rattle.rowmodel.specs.Needs.{unmet, used_number, allowed_row, below_limit, drop_unmet, append_unmet}
-use Rattle.rowmodel.proofs.Refusals.{err_at, old_at, ok_at, new_at, none_at_ok}
+use Rattle.rowmodel.proofs.Refusals.{err_at, old_at, ok_at, new_at, none_at_ok, value_at_ok}
 use Rattle.rowmodel.proofs.Fronts.{front_met}
-use Rattle.rowmodel.proofs.Needed.{append_met}
 use Rattle.bytestore.specs.declared.region.Region.{Region}
 use Rattle.bytestore.specs.declared.store.ByteStore.{ByteStore}
 use Rattle.bytestore.proofs.Stores.{region_of, meaning_of, room_at, full_at, place_fits, parts}
@@ -26,7 +25,7 @@ returns-then-region c =
     let t = c.args.number in
     let h = c.in_ok-region.ensures in
     let q = parts s t c.in_ok-region.region h.found.0 in
-    let o = last_need s t c.args.row.now (none_at_ok _ _ _ h.result) (none_at_ok _ _ _ c.in_ok-check_row.ensures) ∙ cond-false _ _ _ (full_at s t h.found.2 (omega (arith, q))) in
+    let o = last_need s t c.args.row.now (none_at_ok _ _ _ h.result) (none_at_ok _ _ _ c.in_ok-row.ensures) ∙ cond-false _ _ _ (full_at s t h.found.2 (omega (arith, q))) in
     record { result = err_at _ _ _ o; after = old_at _ _ _ _ o }
 
 pub store-requires : goal.store-requires
@@ -35,8 +34,7 @@ store-requires c =
     let t = c.args.number in
     let h = c.in_ok-region.ensures in
     let q = parts s t c.in_ok-region.region h.found.0 in
-    let o = met s t c.args.row.now c.in_ok-region.region (none_at_ok _ _ _ h.result) (none_at_ok _ _ _ c.in_ok-check_row.ensures) h.found.0 c.if-region.false in
-    record { place = omega (arith, q, place_fits s t (region_of s t).count (omega (arith, q))); row = (append_met (meaning_of s) t c.args.row.now o).2 }
+    omega (arith, q, place_fits s t (region_of s t).count (omega (arith, q)))
 
 pub invariant_of-self : goal.invariant_of-self
 invariant_of-self c =
@@ -44,8 +42,8 @@ invariant_of-self c =
     let t = c.args.number in
     let h = c.in_ok-region.ensures in
     let q = parts s t c.in_ok-region.region h.found.0 in
-    let o = met s t c.args.row.now c.in_ok-region.region (none_at_ok _ _ _ h.result) (none_at_ok _ _ _ c.in_ok-check_row.ensures) h.found.0 c.if-region.false in
-    (append_after s t c.store.new.self.bytes.now c.store.ensures.len _ c.args.row.now c.store.ensures.here c.store.ensures.others _ o (omega (arith, q)) (omega (arith, q))).owed
+    let o = met s t c.args.row.now c.in_ok-region.region (none_at_ok _ _ _ h.result) (none_at_ok _ _ _ c.in_ok-row.ensures) h.found.0 c.if-region.false in
+    (append_after s t c.store.new.self.bytes.now c.store.ensures.len _ c.args.row.now (c.store.ensures.here ∙ value_at_ok _ _ _ c.in_ok-row.ensures) c.store.ensures.others _ o (omega (arith, q)) (omega (arith, q))).owed
 
 pub returns : goal.returns
 returns c =
@@ -53,6 +51,6 @@ returns c =
     let t = c.args.number in
     let h = c.in_ok-region.ensures in
     let q = parts s t c.in_ok-region.region h.found.0 in
-    let o = met s t c.args.row.now c.in_ok-region.region (none_at_ok _ _ _ h.result) (none_at_ok _ _ _ c.in_ok-check_row.ensures) h.found.0 c.if-region.false in
-    let e = (append_after s t c.store.new.self.bytes.now c.store.ensures.len _ c.args.row.now c.store.ensures.here c.store.ensures.others _ o (omega (arith, q)) (omega (arith, q))).means in
+    let o = met s t c.args.row.now c.in_ok-region.region (none_at_ok _ _ _ h.result) (none_at_ok _ _ _ c.in_ok-row.ensures) h.found.0 c.if-region.false in
+    let e = (append_after s t c.store.new.self.bytes.now c.store.ensures.len _ c.args.row.now (c.store.ensures.here ∙ value_at_ok _ _ _ c.in_ok-row.ensures) c.store.ensures.others _ o (omega (arith, q)) (omega (arith, q))).means in
     record { result = ok_at _ _ _ o refl; after = new_at _ _ _ _ o e }

@@ -1,8 +1,7 @@
 use Rattle.std.proofs.Common.{◌≡◌, ℕ, List, ◌++◌, None, refl, ◌∙◌}
 use Rattle.rowmodel.specs.Needs.{unmet, used_number, existing_place, allowed_row, row_unmet, replace_unmet}
-use Rattle.rowmodel.proofs.Refusals.{ok_at, new_at, none_at_ok}
+use Rattle.rowmodel.proofs.Refusals.{ok_at, new_at, none_at_ok, value_at_ok}
 use Rattle.rowmodel.proofs.Fronts.{front_met}
-use Rattle.rowmodel.proofs.Needed.{replace_met}
 use Rattle.bytestore.specs.declared.store.ByteStore.{ByteStore}
 use Rattle.bytestore.proofs.Stores.{meaning_of, row_fits}
 use Rattle.bytestore.proofs.After.{replace_after}
@@ -16,22 +15,21 @@ store-requires c =
     let s = c.args.self.now in
     let t = c.args.number in
     let h = c.in_ok-at.ensures in
-    let o = met s t c.args.place c.args.row.now (none_at_ok _ _ _ h.result) (none_at_ok _ _ _ c.in_ok-check_row.ensures) in
-    record { place = (row_fits s t h.found.2 c.args.place _ h.found.3 h.found.0).0; row = (replace_met (meaning_of s) t c.args.place c.args.row.now o).3 }
+    (row_fits s t h.found.2 c.args.place _ h.found.3 h.found.0).0
 
 pub invariant_of-self : goal.invariant_of-self
 invariant_of-self c =
     let s = c.args.self.now in
     let t = c.args.number in
     let h = c.in_ok-at.ensures in
-    let o = met s t c.args.place c.args.row.now (none_at_ok _ _ _ h.result) (none_at_ok _ _ _ c.in_ok-check_row.ensures) in
-    (replace_after s t c.store.new.self.bytes.now c.store.ensures.len _ c.args.row.now c.store.ensures.here c.store.ensures.others c.args.place o h.found.0).owed
+    let o = met s t c.args.place c.args.row.now (none_at_ok _ _ _ h.result) (none_at_ok _ _ _ c.in_ok-row.ensures) in
+    (replace_after s t c.store.new.self.bytes.now c.store.ensures.len _ c.args.row.now (c.store.ensures.here ∙ value_at_ok _ _ _ c.in_ok-row.ensures) c.store.ensures.others c.args.place o h.found.0).owed
 
 pub returns : goal.returns
 returns c =
     let s = c.args.self.now in
     let t = c.args.number in
     let h = c.in_ok-at.ensures in
-    let o = met s t c.args.place c.args.row.now (none_at_ok _ _ _ h.result) (none_at_ok _ _ _ c.in_ok-check_row.ensures) in
-    let e = (replace_after s t c.store.new.self.bytes.now c.store.ensures.len _ c.args.row.now c.store.ensures.here c.store.ensures.others c.args.place o h.found.0).means in
+    let o = met s t c.args.place c.args.row.now (none_at_ok _ _ _ h.result) (none_at_ok _ _ _ c.in_ok-row.ensures) in
+    let e = (replace_after s t c.store.new.self.bytes.now c.store.ensures.len _ c.args.row.now (c.store.ensures.here ∙ value_at_ok _ _ _ c.in_ok-row.ensures) c.store.ensures.others c.args.place o h.found.0).means in
     record { result = ok_at _ _ _ o refl; after = new_at _ _ _ _ o e }

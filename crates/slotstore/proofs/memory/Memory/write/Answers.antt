@@ -10,5 +10,5 @@ returns c =
     record {
       long = length-set ss c.args.slot _;
       linked = map-set_same link ss c.args.slot _ c.index-self-slot.result refl;
-      filled = map-set content ss c.args.slot _ ∙ ap (set (contents ss) c.args.slot) c.new.ensures;
+      filled = map-set content ss c.args.slot _ ∙ ap (set (contents ss) c.args.slot) c.from.ensures;
     }

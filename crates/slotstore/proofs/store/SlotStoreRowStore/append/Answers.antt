@@ -2,7 +2,7 @@ use Rattle.std.proofs.Common.{◌≡◌, ◌<◌, cond, set, Some, None, refl, a
 use Rattle.std.proofs.lemmas.Bool.{lt-ltb, le-ltb}
 use Rattle.rowmodel.specs.declared.StoreFault.TheVariants.{Full}
 use Rattle.rowmodel.specs.Needs.{append_unmet}
-use Rattle.rowmodel.proofs.Refusals.{err_at, old_at, ok_at, new_at, none_at_ok}
+use Rattle.rowmodel.proofs.Refusals.{err_at, old_at, ok_at, new_at, none_at_ok, value_at_ok}
 use Rattle.slotstore.specs.Slot.{contents, links}
 use Rattle.slotstore.specs.Chain.{chain_at, spot}
 use Rattle.slotstore.proofs.Bounds.{meaning_of}
@@ -15,7 +15,7 @@ pub returns-then-table : goal.returns-then-table
 returns-then-table c =
     let checked = c.in_ok-check_used.ensures in
     let o : append_unmet (meaning_of c.args.self.now) c.args.number c.args.row.now ≡ Some Full =
-    append_left c.args.self.now c.args.number checked.found (none_at_ok _ _ _ checked.result) c.args.row.now (none_at_ok _ _ _ c.in_ok-check_row.ensures)
+    append_left c.args.self.now c.args.number checked.found (none_at_ok _ _ _ checked.result) c.args.row.now (none_at_ok _ _ _ c.in_ok-row.ensures)
     ∙ ap (λ b. cond b None (Some Full)) (le-ltb _ _ (omega arith)) in
     record { result = err_at _ _ _ o; after = old_at _ _ _ _ o }
 
@@ -26,13 +26,15 @@ room c = omega (arith, c.in_ok-check_used.ensures.found.few)
 none : (c : After-write) → append_unmet (meaning_of c.args.self.now) c.args.number c.args.row.now ≡ None
 none c =
     let checked = c.in_ok-check_used.ensures in
-    append_left c.args.self.now c.args.number checked.found (none_at_ok _ _ _ checked.result) c.args.row.now (none_at_ok _ _ _ c.in_ok-check_row.ensures)
+    append_left c.args.self.now c.args.number checked.found (none_at_ok _ _ _ checked.result) c.args.row.now (none_at_ok _ _ _ c.in_ok-row.ensures)
     ∙ ap (λ b. cond b None (Some Full)) (lt-ltb _ _ (room c))
 
 filled : (c : After-write) →
     contents c.write.new.self.slots.now
     ≡ set (contents c.args.self.now.memory.slots.now) (spot (links c.args.self.now.memory.slots.now) c.args.self.now.chains c.args.number (chain_at c.args.self.now.chains c.args.number).count) c.args.row.now
-filled c = c.write.ensures.filled ∙ ap (λ i. set (contents c.args.self.now.memory.slots.now) i c.args.row.now) c.reach-next.ensures.result
+filled c =
+    c.write.ensures.filled ∙ ap (set (contents c.args.self.now.memory.slots.now) c.reach-next.result) (value_at_ok _ _ _ c.in_ok-row.ensures)
+    ∙ ap (λ i. set (contents c.args.self.now.memory.slots.now) i c.args.row.now) c.reach-next.ensures.result
 
 pub invariant_of-self : goal.invariant_of-self
 invariant_of-self c =

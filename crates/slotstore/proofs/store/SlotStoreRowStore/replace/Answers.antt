@@ -28,11 +28,12 @@ none c =
     let k = c.args.place in
     front_met (used_number (meaning_of s) t ++ existing_place (meaning_of s) t k) (allowed_row c.args.row.now)
     (none_at_ok (row_unmet (meaning_of s) t k) c.in_ok-slot.slot (spot (links s.memory.slots.now) s.chains t k) c.in_ok-slot.ensures.result)
-    ∙ none_at_ok _ _ _ c.in_ok-check_row.ensures
+    ∙ none_at_ok _ _ _ c.in_ok-row.ensures
 
 filled : (c : After-write) → contents c.write.new.self.slots.now ≡ set (contents c.args.self.now.memory.slots.now) (spot (links c.args.self.now.memory.slots.now) c.args.self.now.chains c.args.number c.args.place) c.args.row.now
 filled c =
-    c.write.ensures.filled ∙ ap (λ i. set (contents c.args.self.now.memory.slots.now) i c.args.row.now) (value_at_ok _ _ _ c.in_ok-slot.ensures.result)
+    c.write.ensures.filled ∙ ap (set (contents c.args.self.now.memory.slots.now) c.in_ok-slot.slot) (value_at_ok _ _ _ c.in_ok-row.ensures)
+    ∙ ap (λ i. set (contents c.args.self.now.memory.slots.now) i c.args.row.now) (value_at_ok _ _ _ c.in_ok-slot.ensures.result)
 
 pub invariant_of-self : goal.invariant_of-self
 invariant_of-self c =
