@@ -60,9 +60,6 @@ module _ (bs : List ℕ) (rs : List Region) (free : ℕ) where
   pub some_limit : (t : ℕ) → is_used (table (byte_meaning bs rs free) t) ≡ true → 0 < (region rs t).limit
   some_limit t e = some_from_used (region rs t).limit _ (sym (ap is_used (table_is bs rs t)) ∙ e)
 
-  pub unused_is : (t : ℕ) → (region rs t).limit ≡ 0 → table (byte_meaning bs rs free) t ≡ unused
-  unused_is t e = table_is bs rs t ∙ ap (λ n. table_of n (rows_from bs (region rs t).base (region rs t).count)) e
-
   pub used_is : (t : ℕ) → 0 < (region rs t).limit → table (byte_meaning bs rs free) t ≡ used (region rs t).limit (rows_from bs (region rs t).base (region rs t).count)
   used_is t some = table_is bs rs t ∙ table_of_used (region rs t).limit _ some
 

@@ -7,7 +7,7 @@ use Rattle.bytestore.specs.declared.region.Region.{Region}
 use Rattle.bytestore.specs.declared.store.ByteStore.{ByteStore}
 use Rattle.bytestore.specs.Memory.{row_in}
 use Rattle.bytestore.specs.Region.{none, region, rows_from, byte_meaning}
-use Rattle.bytestore.proofs.Regions.{limit_is, some_limit, used_is, unused_is, row_is, length-rows, count_fits, row_small}
+use Rattle.bytestore.proofs.Regions.{limit_is, some_limit, used_is, row_is, length-rows, count_fits, row_small}
 
 abbrev pub bytes_of : ByteStore → List ℕ
 bytes_of s = s.memory.bytes.now
@@ -31,9 +31,6 @@ module _ (s : ByteStore) (t : ℕ) where
   -- a number is in use if its region has places
   pub some_at : is_used (table (meaning_of s) t) ≡ true → 0 < (region_of s t).limit
   some_at = some_limit (bytes_of s) s.regions (free_of s) t
-
-  pub unused_at : (region_of s t).limit ≡ 0 → is_used (table (meaning_of s) t) ≡ false
-  unused_at e = ap is_used (unused_is (bytes_of s) s.regions (free_of s) t e)
 
   pub no_limit_past : 16 ≤ t → (region_of s t).limit ≡ 0
   no_limit_past l = ap (λ r. r.limit) (get_or_past s.regions t none (omega (arith, s.long)))

@@ -1,6 +1,6 @@
-use Rattle.std.proofs.Common.{◌≡◌, ℕ, List, ◌++◌, None, refl, ◌∙◌}
+use Rattle.std.proofs.Common.{◌≡◌, ℕ, List, ◌++◌, None, ◌∙◌}
 use Rattle.rowmodel.specs.Needs.{unmet, used_number, existing_place, allowed_row, row_unmet, replace_unmet}
-use Rattle.rowmodel.proofs.Refusals.{ok_at, new_at, none_at_ok, value_at_ok}
+use Rattle.rowmodel.proofs.Refusals.{new_at, none_at_ok, value_at_ok}
 use Rattle.rowmodel.proofs.Fronts.{front_met}
 use Rattle.bytestore.specs.declared.store.ByteStore.{ByteStore}
 use Rattle.bytestore.proofs.Stores.{meaning_of, row_fits}
@@ -12,10 +12,8 @@ met s t k row placed allowed = front_met (used_number (meaning_of s) t ++ existi
 
 pub store-requires : goal.store-requires
 store-requires c =
-    let s = c.args.self.now in
-    let t = c.args.number in
-    let h = c.in_ok-at.ensures in
-    (row_fits s t h.found.2 c.args.place _ h.found.3 h.found.0).0
+    let h = c.in_ok-at.ensures.found in
+    (row_fits c.args.self.now c.args.number h.2 c.args.place _ h.3 h.0).0
 
 pub invariant_of-self : goal.invariant_of-self
 invariant_of-self c =
@@ -25,11 +23,11 @@ invariant_of-self c =
     let o = met s t c.args.place c.args.row.now (none_at_ok _ _ _ h.result) (none_at_ok _ _ _ c.in_ok-row.ensures) in
     (replace_after s t c.store.new.self.bytes.now c.store.ensures.len _ c.args.row.now (c.store.ensures.here ∙ value_at_ok _ _ _ c.in_ok-row.ensures) c.store.ensures.others c.args.place o h.found.0).owed
 
-pub returns : goal.returns
-returns c =
+pub returns-clause-after : goal.returns-clause-after
+returns-clause-after c =
     let s = c.args.self.now in
     let t = c.args.number in
     let h = c.in_ok-at.ensures in
     let o = met s t c.args.place c.args.row.now (none_at_ok _ _ _ h.result) (none_at_ok _ _ _ c.in_ok-row.ensures) in
     let e = (replace_after s t c.store.new.self.bytes.now c.store.ensures.len _ c.args.row.now (c.store.ensures.here ∙ value_at_ok _ _ _ c.in_ok-row.ensures) c.store.ensures.others c.args.place o h.found.0).means in
-    record { result = ok_at _ _ _ o refl; after = new_at _ _ _ _ o e }
+    new_at _ _ _ _ o e

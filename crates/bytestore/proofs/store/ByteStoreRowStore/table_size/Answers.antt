@@ -22,13 +22,6 @@ found_in : (s : ByteStore) (t : ℕ) (o : Result Region StoreFault) (r : Region)
 found_in s t (Ok x) r e h = let same : r ≡ x = cc in (same ∙ h.0, h.1, h.2)
 found_in s t (Err f) r e h = let z : Some r ≡ None = e in cc
 
-pub overflow_cast-result : goal.overflow_cast-result
-overflow_cast-result c =
-    let s = c.args.self.now in
-    let t = c.args.number in
-    let h = found_in s t _ c.in_ok-region.region c.in_ok-region.ensures.value c.used_region.ensures.found in
-    omega (arith, parts s t c.in_ok-region.region h.0, limit_small s t)
-
 pub overflow_cast-result-2 : goal.overflow_cast-result-2
 overflow_cast-result-2 c =
     let s = c.args.self.now in

@@ -5,8 +5,5 @@ use Rattle.slotstore.proofs.store.SlotStore.reach.Goals as goal
 pub walk-requires : goal.walk-requires
 walk-requires c j l = spot_within c.args.self.now c.args.chain j (omega arith)
 
-pub returns : goal.returns
-returns c = record {
-  result = c.walk.ensures;
-  inside = λ l. subst (λ i. i < length c.args.self.now.memory.slots.now) (sym c.walk.ensures) (spot_within c.args.self.now c.args.chain c.args.k l);
-}
+pub returns-clause-inside : goal.returns-clause-inside
+returns-clause-inside c l = subst (λ i. i < length c.args.self.now.memory.slots.now) (sym c.walk.ensures) (spot_within c.args.self.now c.args.chain c.args.k l)

@@ -1,8 +1,8 @@
-use Rattle.std.proofs.Common.{◌≡◌, ◌-◌, List, set, None, refl, ap, ◌∙◌, arith}
+use Rattle.std.proofs.Common.{◌≡◌, ◌-◌, List, set, None, ap, ◌∙◌, arith}
 use Rattle.std.proofs.lemmas.List.{length-set}
 use Rattle.rowmodel.specs.Needs.{drop_unmet}
 use Rattle.rowmodel.specs.Calls.{dropped}
-use Rattle.rowmodel.proofs.Refusals.{ok_at, new_at, none_at_ok}
+use Rattle.rowmodel.proofs.Refusals.{new_at, none_at_ok}
 use Rattle.rowmodel.proofs.Kept.{sound_dropped}
 use Rattle.slotstore.specs.declared.chain.Chain.{Chain}
 use Rattle.slotstore.specs.Slot.{links}
@@ -47,7 +47,7 @@ done c =
 pub invariant_of-self : goal.invariant_of-self
 invariant_of-self c = (done (goal.at.invariant_of-self c).After-link).2
 
-pub returns : goal.returns
-returns c =
-    let d = done (goal.at.returns c).After-link in
-    record { result = ok_at _ _ _ d.0 refl; after = new_at _ _ _ _ d.0 d.1 }
+pub returns-clause-after : goal.returns-clause-after
+returns-clause-after c =
+    let d = done (goal.at.returns-clause-after c).After-link in
+    new_at _ _ _ _ d.0 d.1

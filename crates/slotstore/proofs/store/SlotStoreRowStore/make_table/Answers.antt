@@ -2,7 +2,7 @@ use Rattle.std.proofs.Common.{◌≡◌, List, None, refl}
 use Rattle.std.proofs.lemmas.List.{length-set}
 use Rattle.rowmodel.specs.Needs.{make_unmet}
 use Rattle.rowmodel.specs.Calls.{made}
-use Rattle.rowmodel.proofs.Refusals.{ok_at, old_at, new_at, none_at_ok, some_at_err}
+use Rattle.rowmodel.proofs.Refusals.{old_at, new_at, none_at_ok, some_at_err}
 use Rattle.rowmodel.proofs.Kept.{sound_made}
 use Rattle.slotstore.specs.Slot.{links}
 use Rattle.slotstore.specs.declared.chain.Chain.{Chain}
@@ -51,7 +51,7 @@ done c =
 pub invariant_of-self : goal.invariant_of-self
 invariant_of-self c = (done (goal.at.invariant_of-self c).After-reach-rest).1
 
-pub returns : goal.returns
-returns c =
-    let w = (goal.at.returns c).After-reach-rest in
-    record { result = ok_at _ _ _ (none w) refl; after = new_at _ _ _ _ (none w) (done w).0 }
+pub returns-clause-after : goal.returns-clause-after
+returns-clause-after c =
+    let w = (goal.at.returns-clause-after c).After-reach-rest in
+    new_at _ _ _ _ (none w) (done w).0

@@ -1,7 +1,7 @@
 use Rattle.std.proofs.Common.{◌≡◌, ℕ, ◌+◌, ◌-◌, ◌<◌, List, get_or, set, None, refl, ap, ◌∙◌, inl, inr, arith}
 use Rattle.rowmodel.specs.Needs.{remove_unmet}
 use Rattle.rowmodel.specs.Calls.{removed}
-use Rattle.rowmodel.proofs.Refusals.{ok_at, new_at, none_at_ok, value_at_ok}
+use Rattle.rowmodel.proofs.Refusals.{new_at, none_at_ok, value_at_ok}
 use Rattle.slotstore.specs.declared.slot.Slot.{Slot}
 use Rattle.slotstore.specs.declared.chain.Chain.{Chain}
 use Rattle.slotstore.specs.declared.store.SlotStore.{SlotStore}
@@ -42,10 +42,10 @@ last_done c =
 pub invariant_of-self : goal.invariant_of-self
 invariant_of-self c = (last_done (goal.at.invariant_of-self c).Then-k-count).2
 
-pub returns-then-k-count : goal.returns-then-k-count
-returns-then-k-count c =
-    let d = last_done (goal.at.returns-then-k-count c).Then-k-count in
-    record { result = ok_at _ _ _ d.0 refl; after = new_at _ _ _ _ d.0 d.1 }
+pub returns-then-k-count-clause-after : goal.returns-then-k-count-clause-after
+returns-then-k-count-clause-after c =
+    let d = last_done (goal.at.returns-then-k-count-clause-after c).Then-k-count in
+    new_at _ _ _ _ d.0 d.1
 
 early : (c : After-link-3) → c.args.place + 1 < (chain_at c.args.self.now.chains c.args.number).count
 early c = omega (arith, c.in_ok-taken.ensures.found.1)
@@ -96,7 +96,7 @@ done c =
 pub invariant_of-self-2 : goal.invariant_of-self-2
 invariant_of-self-2 c = (done (goal.at.invariant_of-self-2 c).After-link-3).2
 
-pub returns : goal.returns
-returns c =
-    let d = done (goal.at.returns c).After-link-3 in
-    record { result = ok_at _ _ _ d.0 refl; after = new_at _ _ _ _ d.0 d.1 }
+pub returns-clause-after : goal.returns-clause-after
+returns-clause-after c =
+    let d = done (goal.at.returns-clause-after c).After-link-3 in
+    new_at _ _ _ _ d.0 d.1

@@ -1,24 +1,13 @@
-use Rattle.std.proofs.Common.{◌≡◌, ◌++◌, set, Some, None, Err, refl, ap, ◌∙◌, rules}
+use Rattle.std.proofs.Common.{◌≡◌, ◌++◌, set, None, ap, ◌∙◌}
 use Rattle.rowmodel.specs.Needs.{row_unmet, replace_unmet, used_number, existing_place, allowed_row}
-use Rattle.rowmodel.proofs.Refusals.{err_at, old_at, ok_at, new_at, none_at_ok, some_at_err, value_at_ok}
-use Rattle.rowmodel.proofs.Fronts.{front_unmet, front_met}
+use Rattle.rowmodel.proofs.Refusals.{new_at, none_at_ok, value_at_ok}
+use Rattle.rowmodel.proofs.Fronts.{front_met}
 use Rattle.slotstore.specs.Slot.{contents, links}
 use Rattle.slotstore.specs.Chain.{spot}
 use Rattle.slotstore.proofs.Bounds.{meaning_of}
 use Rattle.slotstore.proofs.Rows.{replace_meaning, replace_keeps}
 use Rattle.slotstore.proofs.store.SlotStoreRowStore.replace.Goals as goal
 use Rattle.slotstore.proofs.store.SlotStoreRowStore.replace.Goals.{After-write}
-
-pub returns-in_err-slot : goal.returns-in_err-slot
-returns-in_err-slot c =
-    let m = meaning_of c.args.self.now in
-    let t = c.args.number in
-    let k = c.args.place in
-    let f = c.in_err-slot.field-0.0 in
-    let o : replace_unmet m t k c.args.row.now ≡ Some f =
-    front_unmet (used_number m t ++ existing_place m t k) (allowed_row c.args.row.now) f (some_at_err _ _ _ c.in_err-slot.ensures.result) in
-    let r : c.from_residual.result ≡ Err f = search rules in
-    record { result = r ∙ err_at _ _ _ o; after = old_at _ _ _ _ o }
 
 -- no need is unmet, and the row is written to its slot
 none : (c : After-write) → replace_unmet (meaning_of c.args.self.now) c.args.number c.args.place c.args.row.now ≡ None
@@ -40,11 +29,8 @@ invariant_of-self c =
     let found = c.in_ok-slot.ensures.found in
     replace_keeps c.args.self.now c.args.number c.args.place c.args.row.now c.write.new.self.slots.now found.2 found.1 c.write.ensures.linked (filled c) c.write.ensures.long (none c)
 
-pub returns : goal.returns
-returns c =
-    let w = (goal.at.returns c).After-write in
+pub returns-clause-after : goal.returns-clause-after
+returns-clause-after c =
+    let w = (goal.at.returns-clause-after c).After-write in
     let found = c.in_ok-slot.ensures.found in
-    record {
-      result = ok_at _ _ _ (none w) refl;
-      after = new_at _ _ _ _ (none w) (replace_meaning c.args.self.now c.args.number c.args.place c.args.row.now c.write.new.self.slots.now found.2 found.1 c.write.ensures.linked (filled w));
-    }
+    new_at _ _ _ _ (none w) (replace_meaning c.args.self.now c.args.number c.args.place c.args.row.now c.write.new.self.slots.now found.2 found.1 c.write.ensures.linked (filled w))
