@@ -1,12 +1,13 @@
 //! Plays a script on two stores side by side.
 ghost use Rattle.std.specs.Prelude.{◌<◌, length, IfOk, OnSome};
+ghost use Rattle.std.specs.Bool.{⊤};
 
 use crate::line::{Line, LineFault, read_line};
 use crate::say::Said;
 use bytestore::{ByteStore, PLACE_BYTES};
 use rowmodel::{MOST_ROWS, ROW_BYTES};
 use rowstore::{Both, Call, RowStore, Session, perform_both};
-use script::at_line;
+use script::{Program, at_line};
 use slotstore::{Slot, SlotStore};
 use std::alloc::Global;
 use std::io;
@@ -22,6 +23,7 @@ struct Stores<L, R> {
 impl<L: RowStore, R: RowStore> Stores<L, R> {
     /// Performs a call on both stores, and writes the answer, or both where they differ.
     fn answer<W: Write>(&mut self, out: &mut W, call: &Call, area: usize) -> io::Result<()> {
+        // No row is longer, so that areas of this length lie on the stack and a call takes no memory.
         let n = area.min(ROW_BYTES);
         let mut slots_area = [0; ROW_BYTES];
         let mut bytes_area = [0; ROW_BYTES];
@@ -108,17 +110,25 @@ impl<W: Write> Player<'_, W> {
     }
 }
 
-/// Plays a whole script.
-pub fn play_script<W: Write>(heap: Global, out: &mut W, lines: &[String]) -> anyhow::Result<()> {
-    let mut player = Player {
-        heap,
-        out,
-        lines,
-        at: 0,
-    };
-    let mut next = player.play_calls(None::<Stores<SlotStore, ByteStore>>)?;
-    while let Some(rows) = next {
-        next = player.play_stores(rows)?;
+/// Plays a script on a slot store and a byte store.
+pub struct RowPlay;
+
+impl Program for RowPlay {
+    ghost played = { ⊤ };
+
+    const NAME: &'static str = "rowplay";
+
+    fn play<W: Write>(heap: Global, out: &mut W, lines: &[String]) -> anyhow::Result<()> {
+        let mut player = Player {
+            heap,
+            out,
+            lines,
+            at: 0,
+        };
+        let mut next = player.play_calls(None::<Stores<SlotStore, ByteStore>>)?;
+        while let Some(rows) = next {
+            next = player.play_stores(rows)?;
+        }
+        Ok(())
     }
-    Ok(())
 }

@@ -2,6 +2,8 @@
 
 #![tactic(auto)]
 
+ghost use Rattle.std.specs.Bool.{⊤};
+
 mod explain;
 mod lines;
 mod refusal;
@@ -12,7 +14,7 @@ use commands::parse_command;
 use explain::Explained;
 use lines::{Line, read_line};
 use refusal::Refusal;
-use script::{at_line, exit_code, play_file};
+use script::{Program, at_line, exit_code, play_file};
 use std::alloc::Global;
 use std::io::Write;
 use std::process::ExitCode;
@@ -40,17 +42,25 @@ fn explain_command<W: Write>(out: &mut W, command: &[u8], area: usize) -> io::Re
 }
 
 /// Explains each command of a script.
-fn explain_script<W: Write>(heap: Global, out: &mut W, script: &[String]) -> anyhow::Result<()> {
-    let mut area = USUAL_AREA;
-    for (at, text) in script.iter().enumerate() {
-        match read_line(heap, text.as_str()) {
-            Ok(None) => {}
-            Ok(Some(Line::Area { length })) => area = length,
-            Ok(Some(Line::Command { bytes })) => explain_command(out, bytes.as_slice(), area)?,
-            Err(fault) => return Err(at_line(heap, at, &fault)),
+struct Scql;
+
+impl Program for Scql {
+    ghost played = { ⊤ };
+
+    const NAME: &'static str = "scql";
+
+    fn play<W: Write>(heap: Global, out: &mut W, lines: &[String]) -> anyhow::Result<()> {
+        let mut area = USUAL_AREA;
+        for (at, text) in lines.iter().enumerate() {
+            match read_line(heap, text.as_str()) {
+                Ok(None) => {}
+                Ok(Some(Line::Area { length })) => area = length,
+                Ok(Some(Line::Command { bytes })) => explain_command(out, bytes.as_slice(), area)?,
+                Err(fault) => return Err(at_line(heap, at, &fault)),
+            }
         }
+        Ok(())
     }
-    Ok(())
 }
 
 fn run(rt: &HostRuntime) -> anyhow::Result<()> {
@@ -58,13 +68,9 @@ fn run(rt: &HostRuntime) -> anyhow::Result<()> {
     if words.nth(1).as_deref() != Some("explain") {
         return Err(anyhow!(USAGE));
     }
-    play_file(
-        rt,
-        words.next(),
-        |script, out| explain_script(rt.alloc(), out, script),
-    )
+    play_file::<Scql>(rt, words.next())
 }
 
 fn main(rt: HostRuntime) -> anyhow::Result<ExitCode> {
-    exit_code(&rt, "scql", run(&rt))
+    exit_code::<Scql>(&rt, run(&rt))
 }

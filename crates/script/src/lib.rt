@@ -2,13 +2,13 @@
 
 #![tactic(auto)]
 
-ghost use Rattle.std.specs.Prelude.{◌≡◌, ℕ, ◌<◌, length, take, ◌≢◌, slice_index, Ok, IfOk, OnOk, MatchResult};
+ghost use Rattle.std.specs.Prelude.{◌≡◌, ℕ, ◌<◌, length, take, ◌≢◌, slice_index, IfOk, OnOk, MatchResult};
 ghost use Rattle.std.specs.Process.{exit_status};
 
 use anyhow::anyhow;
 use std::alloc::Global;
 use std::fs::File;
-use std::io::{BufRead, BufReader, BufWriter, Read, Stdout, Write};
+use std::io::{BufRead, BufReader, BufWriter, Read, Write};
 use std::process::ExitCode;
 use std::str::FromStr;
 use std::{fmt, io};
@@ -46,13 +46,22 @@ pub fn at_line<F: fmt::Display>(heap: Global, at: usize, fault: &F) -> anyhow::E
     }
 }
 
-/// Plays a script, from the file at that path or else from standard input: gives its lines to `play`, with where to
-/// write, which is standard output.
-pub fn play_file<F>(rt: &HostRuntime, path: Option<String>, play: F) -> anyhow::Result<()>
-where
-    F: FnOnce(&[String], &mut BufWriter<Stdout>) -> anyhow::Result<()>,
-    requires { F.IsAlwaysCallable play }
-    ensures { OnOk result ((lines : _) × (out : _) × (after : _) × F.post play lines out (Ok tt) after) }
+/// A program that plays a script.
+pub trait Program {
+    /// What holds when a script was played.
+    ghost played: { Type 0 };
+
+    /// The program's name, which stands before its faults.
+    const NAME: &'static str;
+
+    /// Plays the lines of a script, and writes the answers.
+    fn play<W: Write>(heap: Global, out: &mut W, lines: &[String]) -> anyhow::Result<()>
+        ensures { OnOk result played };
+}
+
+/// Plays a script, from the file at that path or else from standard input; the answers go to standard output.
+pub fn play_file<P: Program>(rt: &HostRuntime, path: Option<String>) -> anyhow::Result<()>
+    ensures { OnOk result P.played }
 {
     let heap = rt.alloc();
     let lines = match path {
@@ -60,15 +69,14 @@ where
         None => read_lines(heap, rt.stdin())?,
     };
     let mut out = BufWriter::new(heap, rt.stdout())?;
-    let played = play(lines.as_slice(), &mut out);
+    let played = P::play(heap, &mut out, lines.as_slice());
     out.flush()?;
     played
 }
 
 /// How a program ends: a fault is told on standard error, behind the program's name.
-pub fn exit_code(
+pub fn exit_code<P: Program>(
     rt: &HostRuntime,
-    program: &str,
     played: anyhow::Result<()>,
 ) -> anyhow::Result<ExitCode>
     ensures { IfOk result (λ code. MatchResult played (λ _. exit_status code ≡ 0) (λ _. exit_status code ≡ 1)) }
@@ -76,7 +84,8 @@ pub fn exit_code(
     match played {
         Ok(()) => Ok(ExitCode::SUCCESS),
         Err(fault) => {
-            eprintln!(rt; "{program}: {fault}")?;
+            let name = P::NAME;
+            eprintln!(rt; "{name}: {fault}")?;
             Ok(ExitCode::FAILURE)
         }
     }

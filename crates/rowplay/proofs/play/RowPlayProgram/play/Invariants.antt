@@ -1,6 +1,6 @@
 use Rattle.std.proofs.Common.{◌+◌, length}
 use Rattle.std.specs.Option.{option_map_or}
-use Rattle.rowplay.proofs.play.play_script.Given as goal
+use Rattle.rowplay.proofs.play.RowPlayProgram.play.Given as goal
 
 -- each turn takes a line with new stores, or is the last one
 abbrev pub decreases-loop-next : goal.decreases-loop-next
