@@ -1,6 +1,6 @@
 use Rattle.std.proofs.Common.{◌≡◌, Some, None, Ok, Err, Option, Result, sym, ap, ◌∙◌, subst, rules, MatchResult, IsOkAnd}
 use Rattle.rowmodel.specs.declared.StoreFault.{StoreFault}
-use Rattle.rowmodel.specs.Needs.{answer, make_unmet, replace_unmet}
+use Rattle.rowmodel.specs.Needs.{answer, make_unmet, append_unmet, replace_unmet}
 use Rattle.rowstore.specs.declared.call.Answer.{Answer}
 use Rattle.rowstore.specs.declared.call.Answer.TheVariants.{Done}
 use Rattle.rowstore.specs.Runs.{Held, answered, request}
@@ -21,6 +21,11 @@ pub returns-in-Make-clause-told : goal.returns-in-Make-clause-told
 returns-in-Make-clause-told g c =
     let h : Held = held_by g.S.RowStore.meaning c.args.self.now in
     done (make_unmet h.store c.in-Make.number c.in-Make.limit) _ _ _ c.make_table.ensures.result c.map.ensures.cases (λ u x p. search rules) ∙ sym (ap (λ q. answered h (request q)) c.in-Make.is)
+
+pub returns-in-Append-clause-told : goal.returns-in-Append-clause-told
+returns-in-Append-clause-told g c =
+    let h : Held = held_by g.S.RowStore.meaning c.args.self.now in
+    done (append_unmet h.store c.in-Append.number c.in-Append.row.now) _ _ _ c.append.ensures.result c.map-in-Append.ensures.cases (λ u x p. search rules) ∙ sym (ap (λ q. answered h (request q)) c.in-Append.is)
 
 pub returns-in-Replace-clause-told : goal.returns-in-Replace-clause-told
 returns-in-Replace-clause-told g c =
