@@ -1,4 +1,4 @@
-ghost use Rattle.std.specs.Prelude.{◌≡◌, ◌≤◌, length};
+ghost use Rattle.std.specs.Prelude.{◌≡◌, take, drop};
 ghost use Rattle.std.specs.Option.{option_map};
 ghost use Rattle.fields.specs.Column.{dot, marks, column_of, column};
 
@@ -22,12 +22,13 @@ pub struct Marks {
     longest: u8,
 }
 
-/// The place of the first dot, or the length where there is none: there a name ends either way.
-fn find_dot(bytes: &[u8]) -> usize
-    ensures within { result ≤ length bytes.now }
-    ensures first { result ≡ dot bytes.now }
+/// A column's name, up to the first dot, and what stands behind it.
+fn split_name(bytes: &[u8]) -> (&[u8], &[u8])
+    ensures name { result.0.now ≡ take (dot bytes.now) bytes.now }
+    ensures rest { result.1.now ≡ drop (dot bytes.now) bytes.now }
 {
-    bytes.iter().position(|c| *c == b'.').unwrap_or(bytes.len())
+    let end = bytes.iter().position(|c| *c == b'.').unwrap_or(bytes.len());
+    bytes.split_at(end)
 }
 
 /// `.U` for a unique column, then `.V` and a byte for its longest length; both may be left out.
@@ -59,7 +60,7 @@ fn read_marks(bytes: &[u8]) -> Option<Marks>
 pub fn read_column(bytes: &[u8]) -> Option<Column<'_>>
     ensures { option_map column result ≡ column_of bytes.now }
 {
-    let (name, rest) = bytes.split_at(find_dot(bytes));
+    let (name, rest) = split_name(bytes);
     if !is_identifier(name) || name == b"USER".as_slice() {
         return None;
     }
