@@ -10,6 +10,7 @@ use rowstore::RowStore;
 
 /// Tables of rows in lent bytes. Each number has its region of places, and no place is in two regions. Dropping a
 /// table closes up its places, so that the free places are always those at the end.
+// Regions in a fixed array by number, and a top: all memory is lent but these few numbers for each table.
 // It has no model: the law of the trait says of each value that its meaning is sound, and a model's value would be any
 // meaning at all.
 #[derive(Drop)]

@@ -44,6 +44,7 @@ pub fn cell(row: &[u8], column: usize) -> CellBytes<'_>
     ensures lawful { CellsRead }
 {
     let mut rest = row.get(1..).unwrap_or(&[]);
+    // This stops early where no cells are left; an iterator of cells with `nth` would be longer.
     for _ in 0..column {
         if rest.is_empty() {
             break;

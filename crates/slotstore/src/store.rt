@@ -18,6 +18,7 @@ const CHAINS: usize = 17;
 const FREE: usize = 16;
 
 /// Sixteen tables in linked slots.
+// Chains in a fixed array by number, and links in the slots: all memory is lent but these few numbers for each table.
 // It has no model: the law of the trait says of each value that its meaning is sound, and a model's value would be any
 // meaning at all.
 #[derive(Drop)]
