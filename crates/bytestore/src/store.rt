@@ -12,7 +12,7 @@ use rowstore::RowStore;
 /// table closes up its places, so that the free places are always those at the end.
 // Regions in a fixed array by number, and a top: all memory is lent but these few numbers for each table.
 // It has no model: the law of the trait says of each value that its meaning is sound, and a model's value would be any
-// meaning at all.
+// meaning at all. Clauses name the fields, since a definition over the store could not be cited where it is declared.
 #[derive(Drop)]
 pub struct ByteStore<'a> {
     memory: Memory<'a>,
@@ -44,7 +44,8 @@ impl<'a> ByteStore<'a> {
     }
 
     /// The region of a number in use.
-    // Here and at the place of a row each store asks its own memory: all that the two could share is the comparison.
+    // Here and at the place of a row each store tests its own entry: the answer then tells of its fields (`found`), and a
+    // test in the trait could tell of the meaning alone.
     fn used_region(&self, number: u8) -> Result<Region, StoreFault>
         ensures result { result ≡ answer (drop_unmet (byte_meaning self.now.memory.bytes.now self.now.regions (self.now.places - self.now.top)) number) (region self.now.regions number) }
         ensures found { IfOk result (λ x. (x ≡ region self.now.regions number) × (number < 16) × (0 < (region self.now.regions number).limit)) }

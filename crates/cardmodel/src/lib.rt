@@ -4,7 +4,7 @@
 #![tactic(auto)]
 
 // Each function here answers `true` and its contract says so, so that a must-fail edit can turn it. They differ in the
-// theorem alone, which no parameter can be.
+// theorem alone: one function over a type would need a type and an impl for each, which is no plainer.
 
 mod next;
 mod nobody;

@@ -28,8 +28,11 @@ impl TryFrom<&[u8]> for Profile {
 }
 
 /// The text that names the profile.
+// Written out here and below, since a derived `Display` promises no words.
 impl fmt::Display for Profile {
     ghost output = { λ p. Some (profile_word p) };
+
+    ghost styled_output = { λ p _. Some (profile_word p) };
 
     fn fmt<W: fmt::Write>(&self, f: &mut fmt::Formatter<W>) -> fmt::Result {
         f.write_str(match self {
@@ -65,6 +68,8 @@ impl TryFrom<u8> for Right {
 /// The word of the right.
 impl fmt::Display for Right {
     ghost output = { λ r. Some (right_word r) };
+
+    ghost styled_output = { λ r _. Some (right_word r) };
 
     fn fmt<W: fmt::Write>(&self, f: &mut fmt::Formatter<W>) -> fmt::Result {
         f.write_str(match self {

@@ -19,6 +19,7 @@ const MOST_CONDITIONS: u8 = 4;
 const USUAL_LIMIT: u8 = 16;
 
 /// How many parameters so many entries of a kind are.
+// Here and not beside `Entry`, since only here a list is kept.
 fn parameter_count(kind: Entry, count: u8) -> usize
     ensures { result ≡ parameters_of kind count }
 {

@@ -4,8 +4,8 @@ ghost use Rattle.commands.specs.Status.{status};
 use crate::parse::CommandFault;
 use apdu::EnvelopeFault;
 
-/// What a refusal tells: a status word, and which cause it was, in which layer, at which offset of the command. Word,
-/// cause and layer are numbers because a card gives them out so; the kinds behind them are those of `CommandFault`.
+/// What a refusal tells: a status word, and which cause it was, in which layer, at which offset of the command, or at 0.
+// Word, cause, layer and place are numbers, since a card gives them out so; the kinds behind them are `CommandFault`'s.
 #[derive(Clone, Copy, PartialEq, Eq, Debug)]
 pub struct Status {
     pub word: u16,

@@ -141,6 +141,7 @@ impl Reader<'_> {
         ensures { Reads (λ bs from. entries_at kind bs from 0 from count) (λ _. count) self.old self.new result }
     {
         let from = self.at;
+        // By number, since each entry is judged by those before it, of which there are `i`.
         for i in 0..count {
             let reader = Reader {
                 field: self.field,

@@ -55,8 +55,8 @@ impl<'a> Reader<'a> {
     }
 
     /// The fault at the position.
-    // Taken before a parameter is read, it is the fault of one that does not say what it should. That is a line in each
-    // such reader; a closure that judges what was read would be longer in each.
+    // Taken before a parameter is read, it is the fault of one that does not say what it should. A reader that took a
+    // closure to judge it would be public, as `commands` reads so too, and would have a `requires`, as no public function.
     pub fn fault(&self) -> FieldFault
         ensures { result.place ≡ self.now.at }
     {

@@ -9,16 +9,12 @@ fn digit(c: u8) -> Option<u8>
     ensures value { result ≡ value c }
     ensures small { unwrap_or result 0 < 16 }
 {
-    match c {
-        b'0'..=b'9' => Some(c - b'0'),
-        b'A'..=b'F' => Some(c - b'A' + 10),
-        b'a'..=b'f' => Some(c - b'a' + 10),
-        _ => None,
-    }
+    char::from(c).to_digit(16).map(|value| value as u8)
 }
 
 /// The bytes that a text says, two digits to a byte, with blanks anywhere; nothing where it has another character
 /// or one digit too many.
+// The kit's decoder takes no blanks.
 pub fn decode(heap: Global, text: &[u8]) -> Result<Option<Vec<u8>>, AllocError>
     ensures { IfOk result (λ o. option_map vec_items o ≡ decoded text.now) }
 {

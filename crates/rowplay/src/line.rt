@@ -38,11 +38,9 @@ pub enum Line<'a> {
     Call { call: Call<'a>, area: usize },
 }
 
-/// A call that copies no row needs no area.
-impl<'a> From<Call<'a>> for Line<'a> {
-    fn from(call: Call<'a>) -> Line<'a> {
-        Line::Call { call, area: 0 }
-    }
+/// A call that copies no row, and so needs no area.
+fn plain(call: Call<'_>) -> Line<'_> {
+    Line::Call { call, area: 0 }
 }
 
 fn number<N: FromStr>(word: Option<&str>) -> Result<N, LineFault>
@@ -76,23 +74,23 @@ pub fn read_line<'a>(
         "store" => Line::Store {
             rows: number(words.next())?,
         },
-        "make" => Line::from(Call::Make {
+        "make" => plain(Call::Make {
             number: number(words.next())?,
             limit: number(words.next())?,
         }),
-        "drop" => Line::from(Call::Drop {
+        "drop" => plain(Call::Drop {
             number: number(words.next())?,
         }),
-        "append" => Line::from(Call::Append {
+        "append" => plain(Call::Append {
             number: number(words.next())?,
             row: bytes(heap, words.next(), row)?,
         }),
-        "replace" => Line::from(Call::Replace {
+        "replace" => plain(Call::Replace {
             number: number(words.next())?,
             place: number(words.next())?,
             row: bytes(heap, words.next(), row)?,
         }),
-        "remove" => Line::from(Call::Remove {
+        "remove" => plain(Call::Remove {
             number: number(words.next())?,
             place: number(words.next())?,
         }),
@@ -103,10 +101,10 @@ pub fn read_line<'a>(
             },
             area: number(words.next())?,
         },
-        "table" => Line::from(Call::Table {
+        "table" => plain(Call::Table {
             number: number(words.next())?,
         }),
-        "free" => Line::from(Call::Free),
+        "free" => plain(Call::Free),
         _ => return Err(LineFault::Word),
     };
     if words.next().is_some() {

@@ -76,6 +76,7 @@ impl<W: Write> Player<'_, W> {
     ) -> anyhow::Result<Option<usize>>
         ensures { IfOk result (λ next. OnSome next (length self.new.lines.now < length self.old.lines.now)) }
     {
+        // Lines are split off and not enumerated: how many are left is what both loops go by.
         while let Some((text, rest)) = self.lines.split_first() {
             let at = self.at;
             self.lines = rest;

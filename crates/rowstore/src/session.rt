@@ -41,7 +41,7 @@ impl<S: RowStore> Session<'_, S> {
     }
 
     /// Whether both areas hold the same bytes.
-    pub(crate) fn same_area<R: RowStore>(&self, other: &Session<R>) -> bool
+    pub(crate) fn same_area<R>(&self, other: &Session<R>) -> bool
         ensures { Decides result (self.now.area.now ≡ other.now.area.now) }
     {
         &*self.area == &*other.area

@@ -5,7 +5,6 @@ ghost use Rattle.std.specs.Prelude.{◌-◌, ◌^◌};
 use crate::words::{Quoted, Shown};
 use commands::{Command, Permission, Selection};
 use fields::{Part, Parts, read_column};
-use itertools::Itertools;
 use std::fmt;
 use text::Operator;
 
@@ -84,15 +83,16 @@ fn tell_list<T: Drop, I: Iterator<Item = T> + Drop, W: fmt::Write, F>(
     opening: &str,
     between: &str,
     items: I,
-    tell_item: F,
+    mut tell_item: F,
 ) -> fmt::Result
 where
-    F: Fn(&mut fmt::Formatter<W>, T) -> fmt::Result,
+    F: FnMut(&mut fmt::Formatter<W>, T) -> fmt::Result,
     requires can { I.can_next items }
     requires ends { IsFinite (I.remaining items) }
     requires few { UpTo (I.remaining items) (2 ^ 64 - 1) }
     requires tells { F.IsAlwaysCallable tell_item }
 {
+    // The first is known by its number: a text that the loop changes would need an invariant that it is one.
     for (i, item) in items.enumerate() {
         f.write_str(if i == 0 { opening } else { between })?;
         tell_item(f, item)?;
@@ -158,13 +158,13 @@ fn tell_condition<W: fmt::Write>(
 }
 
 fn tell_conditions<W: fmt::Write>(f: &mut fmt::Formatter<W>, conditions: Parts) -> fmt::Result {
-    tell_list(
-        f,
-        " where ",
-        " and ",
-        conditions.tuples(),
-        |f, (column, code, string)| { tell_condition(f, column, code, string) },
-    )
+    let mut parts = conditions;
+    tell_list(f, " where ", " and ", 0..conditions.count / 3, |f, _| {
+        match (parts.next(), parts.next(), parts.next()) {
+            (Some(column), Some(code), Some(string)) => tell_condition(f, column, code, string),
+            _ => Ok(()),
+        }
+    })
 }
 
 fn tell_permission<W: fmt::Write>(
@@ -189,10 +189,22 @@ fn tell_strings<W: fmt::Write>(f: &mut fmt::Formatter<W>, strings: Parts) -> fmt
     tell_list(f, ": ", ", ", strings, tell_string)
 }
 
+fn tell_assignment<W: fmt::Write>(
+    f: &mut fmt::Formatter<W>,
+    column: Part,
+    string: Part,
+) -> fmt::Result {
+    tell(f, "", column)?;
+    f.write_str(" to ")?;
+    tell_string(f, string)
+}
+
 fn tell_assignments<W: fmt::Write>(f: &mut fmt::Formatter<W>, assignments: Parts) -> fmt::Result {
-    tell_list(f, "", ", ", assignments.tuples(), |f, (column, string)| {
-        tell(f, "", column)?;
-        f.write_str(" to ")?;
-        tell_string(f, string)
+    let mut parts = assignments;
+    tell_list(f, "", ", ", 0..assignments.count / 2, |f, _| {
+        match (parts.next(), parts.next()) {
+            (Some(column), Some(string)) => tell_assignment(f, column, string),
+            _ => Ok(()),
+        }
     })
 }

@@ -21,7 +21,7 @@ impl fmt::Display for Shown<'_> {
 }
 
 fn is_printing(byte: u8) -> bool {
-    matches!(byte, b' '..=b'~')
+    byte == b' ' || byte.is_ascii_graphic()
 }
 
 /// A string: text between double quotes, or hexadecimal digits between single ones.
@@ -46,6 +46,7 @@ impl fmt::Display for Quoted<'_> {
             return write!(f, "\"{text}\"");
         }
         f.write_char('\'')?;
+        // As `rowplay` writes a row; a type for both would be longer than the loop.
         for byte in self.bytes {
             write!(f, "{byte:02X}")?;
         }

@@ -1,4 +1,5 @@
-//! What the programs that play scripts share: lines with comments, numbers in them, and messages that name a line.
+//! What the programs that play scripts share: how they run, lines with comments, numbers in them, and messages that
+//! name a line.
 
 #![tactic(auto)]
 
@@ -48,7 +49,7 @@ pub fn at_line<F: fmt::Display>(heap: Global, at: usize, fault: &F) -> anyhow::E
 
 /// A program that plays a script.
 pub trait Program {
-    /// What holds when a script was played.
+    /// What holds when a script was played. The programs here state nothing: what they print is tested, not proved.
     ghost played: { Type 0 };
 
     /// The program's name, which stands before its faults.

@@ -1,4 +1,4 @@
-ghost use Rattle.std.specs.Prelude.{◌≡◌, ℕ, ◌<◌, ◌≤◌, [], length, slice_index, slice_index_or, slice_set};
+ghost use Rattle.std.specs.Prelude.{◌≡◌, ℕ, ◌<◌, [], length, slice_index, slice_index_or, slice_set};
 ghost use Rattle.slotstore.specs.Slot.{contents, links};
 ghost use Rattle.slotstore.specs.Chain.{follow};
 
@@ -6,7 +6,8 @@ use crate::slot::{Row, Slot};
 use rowmodel::KeptRow;
 
 /// The lent slots.
-// It has no model: the lemmas go slot by slot, and would say `contents` and `links` of its value as often.
+// It has no model: the lemmas go slot by slot, and would say `contents` and `links` of its value as often. Nor has a
+// slot's number a type: it is good for so many slots as were lent, and is kept in them as a number.
 #[derive(Drop)]
 pub(crate) struct Memory<'a> {
     pub(crate) slots: &'a mut [Slot],

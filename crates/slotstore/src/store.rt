@@ -8,19 +8,19 @@ ghost use Rattle.slotstore.specs.Store.{slot_meaning};
 use crate::chain::Chain;
 use crate::memory::Memory;
 use crate::slot::Slot;
-use rowmodel::{MOST_ROWS, StoreFault, TableSize, check_row};
+use rowmodel::{MOST_ROWS, StoreFault, TABLES, TableSize, check_row};
 use rowstore::RowStore;
 
 /// One chain for each table number, and one for the slots that no table has.
-const CHAINS: usize = 17;
+const CHAINS: usize = TABLES + 1;
 
-/// The chain of the slots that no table has.
-const FREE: usize = 16;
+/// The chain of the slots that no table has. It is one of the array, so that what holds of chains is said once.
+const FREE: usize = TABLES;
 
 /// Sixteen tables in linked slots.
 // Chains in a fixed array by number, and links in the slots: all memory is lent but these few numbers for each table.
 // It has no model: the law of the trait says of each value that its meaning is sound, and a model's value would be any
-// meaning at all.
+// meaning at all. Clauses name the fields, since a definition over the store could not be cited where it is declared.
 #[derive(Drop)]
 pub struct SlotStore<'a> {
     memory: Memory<'a>,
@@ -61,8 +61,8 @@ impl SlotStore<'_> {
         self.memory.walk(head, k)
     }
 
-    // Whether a number is in use. Here and at the place of a row each store asks its own memory: all that the two could
-    // share is the comparison.
+    // Whether a number is in use. Here and at the place of a row each store tests its own entry: the answer then tells of
+    // its fields (`found`), and a test in the trait could tell of the meaning alone.
     fn check_used(&self, number: u8) -> Result<(), StoreFault>
         ensures result { result ≡ answer (drop_unmet (slot_meaning self.now.memory.slots.now self.now.chains) number) tt }
         ensures found { OnOk result (InUse self.now.chains number) }

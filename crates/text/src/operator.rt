@@ -58,8 +58,11 @@ impl Operator {
 }
 
 /// The sign of the operator.
+// Written out, since a derived `Display` promises no words.
 impl fmt::Display for Operator {
     ghost output = { λ o. Some (sign_of o) };
+
+    ghost styled_output = { λ o _. Some (sign_of o) };
 
     fn fmt<W: fmt::Write>(&self, f: &mut fmt::Formatter<W>) -> fmt::Result {
         f.write_str(match self {
