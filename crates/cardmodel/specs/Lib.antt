@@ -12,3 +12,4 @@ pub mod Answer
 pub mod Sight
 pub mod Refusals
 pub mod Nobody
+pub mod Unreached

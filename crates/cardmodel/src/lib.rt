@@ -9,7 +9,9 @@
 mod next;
 mod nobody;
 mod refusals;
+mod unreached;
 
 pub use next::the_next_row_is_the_first_selected;
 pub use nobody::nobody_is_served_unregistered;
 pub use refusals::refusals_leave_everything;
+pub use unreached::unreached_is_as_unknown;

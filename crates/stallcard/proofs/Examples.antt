@@ -1,9 +1,10 @@
--- The worked examples, and an example of each cause, by computation.
+-- The worked examples, and an example of each cause and of each guard, by computation.
 use Rattle.std.proofs.Common.{◌≡◌, [], ◌∷◌, sym, refl, ◌∙◌}
 use Rattle.cardmodel.specs.Answer.{replies}
 use Rattle.stallcard.specs.Stall.{success, stall, stall_at_95, declare_fee, open_cursor, fetch_7}
 use Rattle.stallcard.specs.Worked.{Worked}
 use Rattle.stallcard.specs.Causes.{Caused}
+use Rattle.stallcard.specs.Guards.{Guarded}
 use Rattle.stallcard.proofs.Computed.{computed}
 
 -- what OFFICE is told
@@ -56,4 +57,17 @@ caused = record {
   full = refl;
   store = refl;
   length = refl;
+}
+
+pub guarded : Guarded
+unfolding computed
+guarded = record {
+  tested = refl;
+  measured = refl;
+  shown = refl;
+  unreached = refl;
+  unknown = refl;
+  uninvited = refl;
+  dropped = refl;
+  order = refl;
 }

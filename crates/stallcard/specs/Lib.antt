@@ -1,3 +1,4 @@
 pub mod Stall
 pub mod Worked
 pub mod Causes
+pub mod Guards
