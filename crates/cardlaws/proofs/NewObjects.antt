@@ -59,9 +59,9 @@ emptied_none rows t e n = go (same n t) refl
 no_rows : (o : Object) → RowsFormed o []
 no_rows o = record { within_limit = omega arith; cells = tt; unique = In-all (UniqueIn []) (placed 0 (columns_in o.definition)) (λ p i e. tt) }
 
-granted_added : (k : Catalogue) (x : Object) (free : ℕ) (p : Privilege) → Granted k p →
+granted_beside : (k : Catalogue) (x : Object) (free : ℕ) (p : Privilege) → Granted k p →
     Granted (record { users = k.users; objects = with_one k.objects x; privileges = k.privileges; free = free }) p
-granted_added k x free p g = record {
+granted_beside k x free p g = record {
   object = g.object;
   stands = object_added k.objects.records x p.object g.object g.stands;
   owned = g.owned;
@@ -133,7 +133,7 @@ module _ (total : ℕ) (z : Capacities) (c : Card) (u : Id) (sound : Sound total
     ids = sound.ids;
     pairs = sound.pairs;
     objects = All-push (Formed (os ++ (x ∷ []))) os x (All-weaker (Formed os) _ (λ o f. formed_added os o x f) os sound.objects) form;
-    privileges = All-weaker (Granted c.catalogue) _ (granted_added c.catalogue x free) c.catalogue.privileges.records sound.privileges;
+    privileges = All-weaker (Granted c.catalogue) _ (granted_beside c.catalogue x free) c.catalogue.privileges.records sound.privileges;
     rows = All-push (RowsOf (with_emptied c.rows emptied)) os x
         (All-weaker (RowsOf c.rows) _ (λ o r t. subst (RowsFormed o) (sym (rows_same o.name)) (r t)) os sound.rows)
         (λ t. subst (RowsFormed x) (sym (rows_same x.name ∙ sound.elsewhere x.name (no_table os x.name fresh))) (no_rows x));

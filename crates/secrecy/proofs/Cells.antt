@@ -35,9 +35,9 @@ counted a (suc n) (suc m) l =
     let z : (a + 1) + m ≡ a + suc m = omega arith in
     subst (λ x. (eqb x a || any (eqb x) (range_with_len (a + 1) n)) ≡ true) z (or_right (eqb ((a + 1) + m) a) _ (counted (a + 1) n m (omega arith)))
 
-table_shows : (os : List Object) (o : Object) (n : ℕ) → is_table o ≡ true → n < length (columns_in o.definition) → shows (window os o) n ≡ true
+table_shows_all : (os : List Object) (o : Object) (n : ℕ) → is_table o ≡ true → n < length (columns_in o.definition) → shows (window os o) n ≡ true
 unfolding shows
-table_shows os o n t l = rw (table_columns os o t) (let z : 0 + n ≡ n = omega arith in subst (λ m. any (eqb m) (range_with_len 0 (length (columns_in o.definition))) ≡ true) z (counted 0 (length (columns_in o.definition)) n l))
+table_shows_all os o n t l = rw (table_columns os o t) (let z : 0 + n ≡ n = omega arith in subst (λ m. any (eqb m) (range_with_len 0 (length (columns_in o.definition))) ≡ true) z (counted 0 (length (columns_in o.definition)) n l))
 
 set_cases : {A : Type 0} (xs : List A) (j i : ℕ) (x y w : A) → nth xs j ≡ Some x → nth xs i ≡ Some w → (nth (set xs j y) i ≡ Some w) ⊎ ((w ≡ x) × (nth (set xs j y) i ≡ Some y))
 set_cases [] j i x y w e f = inl f
@@ -61,7 +61,7 @@ module _ (u : Id) (t : Bytes) (i n : ℕ) (v : Bytes) (k : Catalogue) (f : Rows)
       let m = s.inside in
       both_ways (cell_shown (reached k u t) s.row n) s.hidden
       (any-In (λ x. meets x s.row && shows x n) (whole-In w)
-      (and_from _ _ (table_meets k.objects.records w.object s.row w.table) (table_shows k.objects.records w.object n w.table (omega arith))))
+      (and_from _ _ (table_meets k.objects.records w.object s.row w.table) (table_shows_all k.objects.records w.object n w.table (omega arith))))
 
   -- a table that the user reaches itself is another one
   elsewhere_safe : (b : Bytes) (rs : List Row) → Whole k u b → Safe u t i n v k (with_rows f b rs)

@@ -223,11 +223,11 @@ linked_sight u c d l =
     λ i. record { catalogue = c.catalogue; seen = λ t. sees_told (reached c.catalogue u t) (c.rows t) (d.rows t) (l.seen t) i } in
     p ∙ ap {B = Sight} (λ k. record { catalogue = k; seen = λ t. shown_rows (reached k u t) (d.rows t) }) l.catalogue
 
-all_told : (u : Id) (c d : Card) (ms : List Sent) → Stays c ms → Linked u c d → replies c ms ≡ replies d ms
-all_told u c d [] s l = refl
-all_told u c d (m ∷ ms) s l =
+all_replies : (u : Id) (c d : Card) (ms : List Sent) → Stays c ms → Linked u c d → replies c ms ≡ replies d ms
+all_replies u c d [] s l = refl
+all_replies u c d (m ∷ ms) s l =
     let x = step_told u c d l m s.0 in
-    let y = all_told u (after c m) (after d m) ms s.1 (step_linked u c d l m s.0) in λ i. x i ∷ y i
+    let y = all_replies u (after c m) (after d m) ms s.1 (step_linked u c d l m s.0) in λ i. x i ∷ y i
 
 all_seen : (u : Id) (c d : Card) (ms : List Sent) → Stays c ms → Linked u c d → sights u c ms ≡ sights u d ms
 all_seen u c d [] s l = refl
@@ -250,7 +250,7 @@ all_kept_right u start c d (m ∷ ms) s l h =
 
 alike : (u : Id) (c d : Card) (ms : List Sent) → Stays c ms → Linked u c d → Alike u c d ms
 alike u c d ms s l = record {
-  told = all_told u c d ms s l;
+  told = all_replies u c d ms s l;
   seen = all_seen u c d ms s l;
   left_kept = all_kept_left u c c d ms s l (still_start u c);
   right_kept = all_kept_right u d c d ms s l (still_start u d);
