@@ -65,6 +65,14 @@ def signatures(lines):
         at += 1
 
 
+def in_three(found, said):
+    """What stands in three places or more, with what is said of it."""
+    for what, where in found.items():
+        if len(where) >= 3:
+            for name, at in where:
+                yield name, at, said(what)
+
+
 def results(commit):
     for name, lines in files(commit, ".rt", "src"):
         for at, line in enumerate(lines, 1):
@@ -118,10 +126,7 @@ def clauses(commit):
             if clause:
                 for part in clause.group(1).split(" × "):
                     found[re.sub(r"\b(?:self|reader)\.", "", part).strip("() ")].append((name, at))
-    for clause, where in found.items():
-        if len(where) >= 3:
-            for name, at in where:
-                yield name, at, clause
+    yield from in_three(found, lambda clause: clause)
 
 
 def together(commit):
@@ -135,10 +140,7 @@ def together(commit):
             names = [re.sub(r"^(left|right)_", "", p) for p in names]
             for one, two in {(a, b) for i, a in enumerate(names) for b in names[i + 1:] if a != b}:
                 found[one, two].append((name, at))
-    for pair, where in found.items():
-        if len(where) >= 3:
-            for name, at in where:
-                yield name, at, " and ".join(pair)
+    yield from in_three(found, " and ".join)
 
 
 def buffers(commit):
@@ -181,10 +183,7 @@ def repeats(commit):
     for name, at, answer in said_answers(commit):
         if len(answer) > 40:
             found[name.split("/")[1], answer].append((name, at))
-    for (_, answer), where in found.items():
-        if len(where) >= 3:
-            for name, at in where:
-                yield name, at, answer[:100]
+    yield from in_three(found, lambda said: said[1][:100])
 
 
 def main():
