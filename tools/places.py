@@ -25,8 +25,8 @@ import subprocess
 import sys
 import tempfile
 
-CODES = re.compile(r"fn (words|of|carries_\w+|operation_of|read_(?:profile|right)|status_of|cause_words|marked_place|"
-                   r"\w+_sign|\w+_status|expected_length|ended|digit|compare|column_name)\b")
+CODES = (r"fn (words|of|carries_\w+|operation_of|read_(?:profile|right)|status_of|cause_words|marked_place|"
+         r"\w+_sign|\w+_status|expected_length|ended|digit|compare|column_name)\b")
 
 
 def files(commit, ending, part):
@@ -74,11 +74,9 @@ def in_three(found, said):
 
 
 def results(commit):
+    yield from lines_like(commit, r"^\s*(pub(\(\w+\))? )?enum \w+|^\s+(pub(\(\w+\))? )?\w+: bool,|"
+                                  r"^\s+(pub )?(cause|layer|word|code|kind): u\d+,")
     for name, lines in files(commit, ".rt", "src"):
-        for at, line in enumerate(lines, 1):
-            if is_code(line) and re.search(r"^\s*(pub(\(\w+\))? )?enum \w+|^\s+(pub(\(\w+\))? )?\w+: bool,|"
-                                           r"^\s+(pub )?(cause|layer|word|code|kind): u\d+,", line):
-                yield name, at, line.strip()
         for at, head in signatures(lines):
             if "-> Option<" in head and re.search(r"&mut (self|Reader)", head):
                 yield name, at, head.split(" ensures")[0]
@@ -97,18 +95,20 @@ def twins(commit):
             yield row.split(" ", 1)[1], 0, ""
 
 
-def loops(commit):
+def lines_like(commit, pattern):
+    """The lines of code that a pattern finds."""
     for name, lines in files(commit, ".rt", "src"):
         for at, line in enumerate(lines, 1):
-            if is_code(line) and re.search(r"^\s*(while|loop|for \S.* in )\b", line):
+            if is_code(line) and re.search(pattern, line):
                 yield name, at, line.strip()
+
+
+def loops(commit):
+    return lines_like(commit, r"^\s*(while|loop|for \S.* in )\b")
 
 
 def written(commit):
-    for name, lines in files(commit, ".rt", "src"):
-        for at, line in enumerate(lines, 1):
-            if is_code(line) and (re.search(r"^\s*impl.*\b(From|TryFrom|Display)\b.* for ", line) or CODES.search(line)):
-                yield name, at, line.strip()
+    return lines_like(commit, r"^\s*impl.*\b(From|TryFrom|Display)\b.* for |" + CODES)
 
 
 def derives(commit):
@@ -144,19 +144,11 @@ def together(commit):
 
 
 def buffers(commit):
-    for name, lines in files(commit, ".rt", "src"):
-        for at, line in enumerate(lines, 1):
-            if is_code(line) and re.search(r"\[[\w:]+; \w+\]|^\s+(pub(\(\w+\))? )?(len|count|size|at|top|places): u\w+,",
-                                           line):
-                yield name, at, line.strip()
+    return lines_like(commit, r"\[[\w:]+; \w+\]|^\s+(pub(\(\w+\))? )?(len|count|size|at|top|places): u\w+,")
 
 
 def switches(commit):
-    for name, lines in files(commit, ".rt", "src"):
-        for at, line in enumerate(lines, 1):
-            if is_code(line) and re.search(r"match (kind|\*call|envelope\.operation|self\.command|source|line|self)\b|: fn\(",
-                                           line):
-                yield name, at, line.strip()
+    return lines_like(commit, r"match (kind|\*call|envelope\.operation|self\.command|source|line|self)\b|: fn\(")
 
 
 def said_answers(commit):

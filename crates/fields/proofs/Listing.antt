@@ -1,7 +1,7 @@
 -- How the reading of entries goes on from one to the next.
 use Rattle.std.proofs.Common.{◌≡◌, ℕ, suc, ◌+◌, ◌-◌, ◌<◌, ◌≤◌, Bool, true, false, cond, ◌&&◌, List, [], ◌∷◌, refl, ap, ◌∙◌, arith}
 use Rattle.fields.specs.declared.entries.Entry.{Entry}
-use Rattle.fields.specs.Reader.{Read, got, broken, and_then, each, Parameter, parameters, param_at}
+use Rattle.fields.specs.Reader.{Read, got, broken, and_then, each}
 use Rattle.fields.specs.Entries.{name_at, rest_at, differ, names, among, entries_at}
 use Rattle.fields.specs.Names.{entry_at}
 
@@ -57,14 +57,3 @@ module _ (e : Entry) (bs : List ℕ) (from at n i : ℕ) where
           from_bar true = refl
           from_bar false = refl
       from_name (broken p) = refl
-
--- parameters, by the next one
-module _ (bs : List ℕ) (at n : ℕ) (some : 0 < n) where
-  next : parameters bs at n ≡ each (param_at bs at) (λ p q. p ∷ parameters bs q (n - 1))
-  next = let e : n ≡ suc (n - 1) = omega arith in ap (parameters bs at) e
-
-  pub parameters_broken : (p : ℕ) → param_at bs at ≡ broken p → parameters bs at n ≡ []
-  parameters_broken p e = next ∙ ap (λ r. each r (λ x q. x ∷ parameters bs q (n - 1))) e
-
-  pub parameters_more : (x : Parameter) (q : ℕ) → param_at bs at ≡ got x q → parameters bs at n ≡ x ∷ parameters bs q (n - 1)
-  parameters_more x q e = next ∙ ap (λ r. each r (λ y s. y ∷ parameters bs s (n - 1))) e
