@@ -85,10 +85,10 @@ fn read_limit(reader: &mut Reader) -> Result<u8, FieldFault>
     if reader.is_at_end() {
         return Ok(USUAL_LIMIT);
     }
-    let fault = reader.fault();
+    let place = reader.place();
     let limit = reader.byte()?;
     if limit == 0 {
-        return Err(fault);
+        return Err(reader.fault_at(place));
     }
     Ok(limit)
 }
@@ -98,9 +98,12 @@ fn read_limit(reader: &mut Reader) -> Result<u8, FieldFault>
 fn read_right(reader: &mut Reader) -> Result<Right, FieldFault>
     ensures { Reads right_at (λ r. r) reader.old reader.new result }
 {
-    let fault = reader.fault();
+    let place = reader.place();
     let code = reader.byte()?;
-    Right::try_from(code).map_err(|_| fault)
+    let Ok(right) = Right::try_from(code) else {
+        return Err(reader.fault_at(place));
+    };
+    Ok(right)
 }
 
 fn is_asterisk(text: &[u8]) -> bool
@@ -114,10 +117,10 @@ fn is_asterisk(text: &[u8]) -> bool
 fn read_grantee<'a>(reader: &mut Reader<'a>) -> Result<Part<'a>, FieldFault>
     ensures { Reads grantee_at parameter reader.old reader.new result }
 {
-    let fault = reader.fault();
+    let place = reader.place();
     let grantee = reader.param()?;
     if !is_identifier(grantee.bytes) && !is_asterisk(grantee.bytes) {
-        return Err(fault);
+        return Err(reader.fault_at(place));
     }
     Ok(grantee)
 }

@@ -42,13 +42,17 @@ impl<'a> Reader<'a> {
     fn defined_name(&mut self) -> Result<&'a [u8], FieldFault>
         ensures { Reads (name_at Definition) (λ n. n.now) self.old self.new result }
     {
-        let fault = self.fault();
+        let place = self.at;
         let part = self.param()?;
-        let column = read_column(part.bytes).ok_or(fault)?;
+        let Some(column) = read_column(part.bytes) else {
+            return Err(self.fault_at(place));
+        };
         Ok(column.name)
     }
 
     /// The name of the column that an entry speaks of.
+    // A hint alone: every entry is read by it, and again for each entry behind it.
+    #[inline]
     #[tactic(auto, unfolding(crate::specs::Entries::name_at))]
     fn entry_name(&mut self, kind: Entry) -> Result<&'a [u8], FieldFault>
         ensures { Reads (name_at kind) (λ n. n.now) self.old self.new result }
@@ -128,10 +132,10 @@ impl Reader<'_> {
         ensures { Reads (entry_at earlier.entry.kind (named earlier.entry)) (λ _. 0) self.old self.new result }
     {
         let kind = earlier.kind;
-        let fault = self.fault();
+        let place = self.at;
         let name = self.entry_name(kind)?;
         if kind.columns_differ() && earlier.have(name) {
-            return Err(fault);
+            return Err(self.fault_at(place));
         }
         self.entry_rest(kind)
     }

@@ -32,7 +32,7 @@ pub struct Parts<'a> {
 pub const DATA: usize = 5;
 
 /// Reads a field, a command up to the end of its data, from left to right. Its position is the offset of what it
-/// reads next. What breaks the field's form is told with its place.
+/// reads next, or, after a fault, of what is at fault; the fault holds that place too.
 #[derive(Drop, Debug)]
 pub struct Reader<'a> {
     pub field: &'a [u8],
@@ -55,12 +55,22 @@ impl<'a> Reader<'a> {
     }
 
     /// The fault at the position.
-    // Taken before a parameter is read, it is the fault of one that does not say what it should. A reader that took a
-    // closure to judge it would be public, as `commands` reads so too, and would have a `requires`, as no public function.
     pub fn fault(&self) -> FieldFault
         ensures { result.place ≡ self.now.at }
     {
         FieldFault { place: self.at }
+    }
+
+    /// The fault at a place, at which the reader then stands.
+    // Of a parameter that was read, and does not say what it should. A reader that took a closure to judge it would be
+    // public, as `commands` reads so too, and would have a `requires`, as no public function.
+    pub fn fault_at(&mut self, place: usize) -> FieldFault
+        ensures fault { result.place ≡ place }
+        ensures at { self.new.at ≡ place }
+        ensures same { self.new.field.now ≡ self.old.field.now }
+    {
+        self.at = place;
+        self.fault()
     }
 
     /// A length byte and as many bytes.
@@ -70,11 +80,13 @@ impl<'a> Reader<'a> {
     {
         let place = self.at;
         let field = self.field;
-        let missing = FieldFault { place: field.len() };
-        let len = usize::from(*field.get(place).ok_or(missing)?);
+        let Some(&len) = field.get(place) else {
+            return Err(self.fault_at(field.len()));
+        };
+        let len = usize::from(len);
         let from = place + 1;
         if field.len() - from < len {
-            return Err(missing);
+            return Err(self.fault_at(field.len()));
         }
         let end = from + len;
         self.at = end;
@@ -89,10 +101,9 @@ impl<'a> Reader<'a> {
     pub fn count(&mut self, least: u8, most: u8) -> Result<u8, FieldFault>
         ensures { Reads (λ bs. count_at bs least most) (λ n. n) self.old self.new result }
     {
-        let missing = FieldFault {
-            place: self.field.len(),
+        let Some(&count) = self.field.get(self.at) else {
+            return Err(self.fault_at(self.field.len()));
         };
-        let count = *self.field.get(self.at).ok_or(missing)?;
         if count < least || count > most {
             return Err(self.fault());
         }
@@ -105,10 +116,10 @@ impl<'a> Reader<'a> {
     pub fn identifier(&mut self) -> Result<Part<'a>, FieldFault>
         ensures { Reads identifier_at parameter self.old self.new result }
     {
-        let fault = self.fault();
+        let place = self.at;
         let part = self.param()?;
         if !is_identifier(part.bytes) {
-            return Err(fault);
+            return Err(self.fault_at(place));
         }
         Ok(part)
     }
@@ -118,10 +129,10 @@ impl<'a> Reader<'a> {
     pub fn byte(&mut self) -> Result<u8, FieldFault>
         ensures { Reads byte_at (λ n. n) self.old self.new result }
     {
-        let fault = self.fault();
+        let place = self.at;
         let part = self.param()?;
         if part.bytes.len() != 1 {
-            return Err(fault);
+            return Err(self.fault_at(place));
         }
         Ok(part.bytes[0])
     }
@@ -131,9 +142,12 @@ impl<'a> Reader<'a> {
     pub fn operator(&mut self) -> Result<Operator, FieldFault>
         ensures { Reads operator_at (λ o. o) self.old self.new result }
     {
-        let fault = self.fault();
+        let place = self.at;
         let code = self.byte()?;
-        Operator::try_from(code).map_err(|_| fault)
+        let Ok(operator) = Operator::try_from(code) else {
+            return Err(self.fault_at(place));
+        };
+        Ok(operator)
     }
 
     /// Whether nothing is left over.

@@ -29,4 +29,4 @@ loop-i-preserved c =
 pub returns : goal.returns
 returns c =
     let s = c.args.self.now in
-    (sym c.loop-i.invariant.read ∙ entries_all c.args.kind s.field.now s.at c.loop-i.self.at c.args.count c.loop-i.i c.loop-i-test.false (omega arith), c.loop-i.invariant.same)
+    (sym c.loop-i.invariant.read ∙ entries_all c.args.kind s.field.now s.at c.loop-i.self.at c.args.count c.loop-i.i c.loop-i-test.false (omega arith), c.loop-i.invariant.same, tt)
