@@ -1,7 +1,9 @@
 -- What regions of places mean: tables of rows.
-use Rattle.std.specs.Prelude.{◌≡◌, ℕ, ◌+◌, ◌-◌, ◌<◌, ◌≤◌, cond, List, map, nat_lt, slice_index_or}
+use Rattle.std.specs.Prelude.{◌≡◌, ℕ, ◌+◌, ◌-◌, ◌<◌, ◌≤◌, cond, List, map, length, nat_lt, slice_index_or}
+use Rattle.std.proofs.Common.{◌∙◌}
+use Rattle.std.proofs.lemmas.List.{length-map}
 use Rattle.std.specs.List.{range_with_len}
-use Rattle.rowmodel.specs.Meaning.{Table, table_of, Meaning}
+use Rattle.rowmodel.specs.Meaning.{Table, table_of, Meaning, Limited, Sized, Roomy, Sound}
 use Rattle.bytestore.specs.declared.region.Region.{Region}
 use Rattle.bytestore.specs.Memory.{row_in}
 
@@ -43,6 +45,11 @@ table_in bs r = table_of r.limit (rows_from bs r.base r.count)
 -- what a store holds: the table in each region, and the free places
 abbrev pub byte_meaning : List ℕ → List Region → ℕ → Meaning
 byte_meaning bs rs free = record { tables = map (table_in bs) rs; free = free }
+
+-- A store's meaning is sound if its parts are.
+pub byte_sound : (bs : List ℕ) (rs : List Region) (free : ℕ) → length rs ≡ 16 → Limited (byte_meaning bs rs free) → Sized (byte_meaning bs rs free) → Roomy (byte_meaning bs rs free) →
+    Sound (byte_meaning bs rs free)
+byte_sound bs rs free long limited sized roomy = record { sixteen = length-map rs (table_in bs) ∙ long; limited = limited; sized = sized; roomy = roomy }
 
 -- a region once the places of another one are closed up: if it lies past them, it moves down by their number
 abbrev pub lowered : Region → Region → Region

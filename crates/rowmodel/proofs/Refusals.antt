@@ -38,3 +38,6 @@ new_at_none o old new x n e = e ∙ ap (λ p. unless p old new) n
 pub some_at_err : {A : Type 0} (o : Option StoreFault) (f : StoreFault) (b : A) → Err f ≡ answer o b → o ≡ Some f
 some_at_err None f b e = let z : ◌≡◌ {A = ℕ} 0 1 = cc in absurd (omega arith)
 some_at_err (Some g) f b e = cc
+
+pub old_at_some : {A : Type 0} (o : Option StoreFault) (f : StoreFault) (old new x : A) → o ≡ Some f → x ≡ unless o old new → x ≡ old
+old_at_some o f old new x n e = e ∙ ap (λ p. unless p old new) n
