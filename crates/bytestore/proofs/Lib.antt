@@ -1,4 +1,3 @@
-pub mod Maps
 pub mod Bytes
 pub mod Regions
 pub mod Areas

@@ -43,8 +43,12 @@ impl Region {
 }
 
 /// The regions once the places of `gone` are closed up.
-pub(crate) fn closed_up(regions: [Region; TABLES], gone: Region) -> [Region; TABLES]
+// A loop and no `map`, which takes an array apart element by element: dropping a small table took twice the time.
+pub(crate) fn closed_up(mut regions: [Region; TABLES], gone: Region) -> [Region; TABLES]
     ensures { result ≡ map (lowered gone) regions }
 {
-    regions.map(|region| region.lowered(gone))
+    for region in regions.iter_mut() {
+        *region = region.lowered(gone);
+    }
+    regions
 }

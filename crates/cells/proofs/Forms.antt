@@ -1,6 +1,6 @@
 -- The laws of the form, and reading from it.
-use Rattle.std.proofs.Common.{◌≡◌, ℕ, zero, suc, ◌+◌, ◌-◌, ◌<◌, ◌≤◌, leb, List, [], ◌∷◌, ◌++◌, length, get_or, take, drop, Some, None, Option, sym, refl, ap, ◌∙◌, ⊎_elim, arith}
-use Rattle.std.proofs.lemmas.List.{take_at, drop_at, take-append-drop, length-append, length-take-le}
+use Rattle.std.proofs.Common.{◌≡◌, ℕ, zero, suc, ◌+◌, ◌-◌, ◌<◌, ◌≤◌, leb, List, [], ◌∷◌, ◌++◌, length, get_or, take, drop, Some, None, Option, sym, refl, ap, ◌∙◌, ⊎_elim, add_assoc, arith}
+use Rattle.std.proofs.lemmas.List.{at_drop_more, drop-drop, take_at, drop_at, take-append-drop, length-append, length-take-le}
 use Rattle.std.proofs.lemmas.Bool.{cases_lt, le-leb, lt-leb, cond-true, cond-false}
 use Rattle.cells.specs.Form.{encoded, encoded_cells, before, decoded, decoded_cells, string_of, behind, cell_from, RoundTrip, CellsRead, CountRead}
 
@@ -72,6 +72,10 @@ cells_read (n ∷ bs) cs h = (read n bs cs h).each
 pub count_read : CountRead
 count_read [] cs h = absurd cc
 count_read (n ∷ bs) cs h = (read n bs cs h).count
+
+-- the next cell begins where one ends
+pub behind_at : (row : List ℕ) (p : ℕ) → p < length row → drop (p + (1 + get_or row p 0)) row ≡ behind (drop p row)
+behind_at row p l = sym (at_drop_more behind row p 0 l ∙ drop-drop (get_or row p 0) (p + 1) row ∙ ap (λ n. drop n row) (add_assoc p 1 (get_or row p 0)))
 
 -- one cell on
 pub cell_on : (bs next : List ℕ) (k i : ℕ) → i < k → next ≡ behind bs → cell_from next (k - (i + 1)) ≡ cell_from bs (k - i)

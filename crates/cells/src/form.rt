@@ -1,5 +1,5 @@
 ghost use Rattle.std.specs.Prelude.{◌≡◌, ◌≤◌, length, drop, slice_index};
-ghost use Rattle.cells.specs.Form.{string_of, behind, cell_at, CellsRead, CountRead};
+ghost use Rattle.cells.specs.Form.{string_of, cell_at, CellsRead, CountRead};
 
 /// The bytes of a cell, so many at most as a length byte can tell.
 #[derive(Clone, Copy, PartialEq, Eq, Debug)]
@@ -8,23 +8,23 @@ pub struct CellBytes<'a> {
     pub ghost short: { length bytes.now ≤ 255 },
 }
 
-/// The string whose length byte comes first, as much of it as there is, and what stands behind it.
-fn split_string(bytes: &[u8]) -> (CellBytes<'_>, &[u8])
-    ensures string { result.0.bytes.now ≡ string_of bytes.now }
-    ensures rest { result.1.now ≡ behind bytes.now }
+/// The string whose length byte comes first: as much of it as there is.
+fn first_string(bytes: &[u8]) -> CellBytes<'_>
+    ensures { result.bytes.now ≡ string_of bytes.now }
 {
     let [len, rest @ ..] = bytes else {
-        return (CellBytes { bytes }, bytes);
+        return CellBytes { bytes };
     };
-    let (bytes, rest) = rest.split_at(rest.len().min(*len as usize));
-    (CellBytes { bytes }, rest)
+    CellBytes {
+        bytes: &rest[..rest.len().min(*len as usize)],
+    }
 }
 
 /// The string whose length byte stands at a place: as much of it as there is.
 pub(crate) fn string_at(bytes: &[u8], place: usize) -> CellBytes<'_>
     ensures { result.bytes.now ≡ string_of (drop place bytes.now) }
 {
-    split_string(bytes.get(place..).unwrap_or(&[])).0
+    first_string(bytes.get(place..).unwrap_or(&[]))
 }
 
 /// How many cells a row says that it has.
@@ -43,13 +43,14 @@ pub fn cell(row: &[u8], column: usize) -> CellBytes<'_>
     ensures result { result.bytes.now ≡ cell_at row.now column }
     ensures lawful { CellsRead }
 {
-    let mut rest = row.get(1..).unwrap_or(&[]);
-    // This stops early where no cells are left; an iterator of cells with `nth` would be longer.
+    let mut place = 1;
+    // This stops early where no cells are left; an iterator of cells with `nth` would be longer. It goes by places: what
+    // is left of the row, kept as a slice, took a third more time and more.
     for _ in 0..column {
-        if rest.is_empty() {
+        let Some(&len) = row.get(place) else {
             break;
-        }
-        rest = split_string(rest).1;
+        };
+        place += 1 + usize::from(len);
     }
-    split_string(rest).0
+    string_at(row, place)
 }

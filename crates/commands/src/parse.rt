@@ -51,22 +51,12 @@ fn parse_field(envelope: Envelope<'_>) -> Result<Command<'_>, FieldFault>
         Operation::CreateUser => parse_create_user(field),
         Operation::CreateTable => parse_create_table(field),
         Operation::CreateView => parse_create_view(field),
-        Operation::DropTable => {
-            let name = parse_only_name(field)?;
-            Ok(Command::DropTable { name })
-        }
-        Operation::DropView => {
-            let name = parse_only_name(field)?;
-            Ok(Command::DropView { name })
-        }
-        Operation::Grant => {
-            let permission = parse_permission(field)?;
-            Ok(Command::Grant { permission })
-        }
-        Operation::Revoke => {
-            let permission = parse_permission(field)?;
-            Ok(Command::Revoke { permission })
-        }
+        Operation::DropTable => parse_only_name(field).map(|name| Command::DropTable { name }),
+        Operation::DropView => parse_only_name(field).map(|name| Command::DropView { name }),
+        Operation::Grant => parse_permission(field).map(|permission| Command::Grant { permission }),
+        Operation::Revoke => parse_permission(field).map(|permission| Command::Revoke {
+            permission,
+        }),
         Operation::DeclareCursor => parse_declare_cursor(field),
         Operation::Open => Ok(Command::Open),
         Operation::Next => Ok(Command::Next),
